@@ -1,0 +1,4 @@
+pub mod Bookings
+pub mod Cards
+pub mod Loans
+pub mod Nights
