@@ -3,6 +3,8 @@ ghost use Rattle.coding.specs.Bookings.{booking-item, booking-number};
 use crate::Coding;
 use crate::items::Booking;
 
+/// How many bits the number of a booking has.
+const WIDTH: u32 = 24;
 /// The first booking; there is no booking 0.
 const FIRST_BOOKING: u64 = 1;
 /// The last booking: seven digits.
@@ -22,7 +24,7 @@ pub impl Coding for BookingCoding as BookingAsCoding {
     ghost item = { λ _. booking-item };
 
     fn width(&self) -> u32 {
-        24
+        WIDTH
     }
 
     fn number(&self, x: Booking) -> Option<u64> {

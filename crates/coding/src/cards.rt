@@ -3,6 +3,8 @@ ghost use Rattle.coding.specs.Cards.{card-item, card-number};
 use crate::Coding;
 use crate::items::Card;
 
+/// How many bits the number of a card has.
+const WIDTH: u32 = 32;
 /// The first card; there is no card 0.
 const FIRST_CARD: u64 = 1;
 /// The last card, 2^32 - 1.
@@ -22,7 +24,7 @@ pub impl Coding for CardCoding as CardAsCoding {
     ghost item = { λ _. card-item };
 
     fn width(&self) -> u32 {
-        32
+        WIDTH
     }
 
     fn number(&self, x: Card) -> Option<u64> {

@@ -1,4 +1,5 @@
 //! What a register speaks of, as numbers: a coding gives each valid item of one type a number of a fixed width, and takes the number back.
+//! `Coding` is the interface. The items are nights, cards, bookings and loans, each with a coding of its own.
 ghost use mathlib.Core.Path.{_≡_};
 ghost use Prim.Native.Nat.{ℕ, _^_, _<_, _≤_};
 ghost use Rattle.std.specs.declared.option.Option.the-variants.{Some};

@@ -6,6 +6,9 @@ use crate::items::Night;
 use crate::nights::NightAsCoding;
 use crate::nights::NightCoding;
 
+/// How many bits the number of a loan has.
+const WIDTH: u32 = 21;
+
 /// Loans for any pitch up to any night that exists, with the deposit paid or not.
 #[derive(Clone, Copy)]
 pub struct LoanCoding;
@@ -20,7 +23,7 @@ pub impl Coding for LoanCoding as LoanAsCoding {
     ghost item = { λ _. loan-item };
 
     fn width(&self) -> u32 {
-        21
+        WIDTH
     }
 
     fn number(&self, x: Loan) -> Option<u64> {

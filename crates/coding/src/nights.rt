@@ -3,6 +3,8 @@ ghost use Rattle.coding.specs.Nights.{night-item, night-number};
 use crate::Coding;
 use crate::items::Night;
 
+/// How many bits the number of a night has.
+const WIDTH: u32 = 20;
 /// The last pitch of a site; the first is 0.
 const LAST_PITCH: u64 = 999;
 /// The last night of two years; the first is 0.
@@ -24,7 +26,7 @@ pub impl Coding for NightCoding as NightAsCoding {
     ghost item = { λ _. night-item };
 
     fn width(&self) -> u32 {
-        20
+        WIDTH
     }
 
     fn number(&self, x: Night) -> Option<u64> {

@@ -1,0 +1,2 @@
+mod Nights
+mod Reading

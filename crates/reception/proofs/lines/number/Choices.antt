@@ -1,0 +1,8 @@
+use mathlib.Core.Path.{_≡_}
+use lib.ListN.{drop}
+use Rattle.reception.specs.Lines.{decimal, decimal-from}
+use Rattle.reception.proofs.lines.number.Given as given
+
+-- the digits so far wrote n
+abbrev pub Inv-loop-byte : given.InvT-loop-byte
+Inv-loop-byte l = decimal (l .text) ≡ decimal-from (l .n) (drop (l .byte-index) (l .text))
