@@ -1,0 +1,12 @@
+pub mod Numbers
+pub mod Splices
+pub mod Gets
+pub mod Puts
+pub mod Moves
+pub mod Packs
+pub mod Edits
+pub mod Runs
+pub mod Unary
+pub mod Scans
+pub mod Lists
+pub mod Tails

@@ -1,0 +1,4 @@
+pub mod Area
+pub mod Laws
+pub mod Marks
+pub mod Words
