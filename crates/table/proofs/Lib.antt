@@ -1,0 +1,12 @@
+pub mod Zeros
+pub mod Runs
+pub mod Blocks
+pub mod Groups
+pub mod Slots
+pub mod Calls
+pub mod Standing
+pub mod Steps
+pub mod Checks
+pub mod Shapes
+pub mod Loads
+pub mod Setting
