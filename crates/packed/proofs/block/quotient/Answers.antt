@@ -1,0 +1,17 @@
+use mathlib.Core.Path.{refl}
+use native.Mathlib.Omega.{arith}
+use Rattle.packed.proofs.Views.{place-few, quotient-read}
+use Rattle.packed.proofs.block.quotient.Needs as need
+
+pub add-before : need.add-before
+add-before c =
+    let s = c .args .shape in
+    omega (arith, c .before-2 .ensures .value, place-few (s .k) (s .v) (s .b) (c .args .block .now) (c .pre .marked) (c .args .slot) (c .pre .slot) (c .args .i) (c .pre .place))
+
+pub returns : need.returns
+returns c =
+    let s = c .args .shape in
+    record {
+      value = quotient-read (s .k) (s .v) (s .b) (c .args .block .now) (c .pre .marked) (c .args .slot) (c .pre .slot) (c .args .i) (c .pre .place)
+          (c .quotients .result .now) (c .quotients .ensures .value) _ refl (omega arith) (c .before-2 .result) (c .before-2 .ensures .value) (c .read .result) (c .read .ensures .value);
+    }
