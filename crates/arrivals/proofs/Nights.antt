@@ -5,7 +5,7 @@ use Prim.Native.Nat.{ℕ, suc, _+_, _-_, _<_, _≤_}
 use native.Mathlib.Omega.{arith}
 use borrow.Author.Needs.{needs}
 use Rattle.coding.specs.Nights.{night-exists}
-use Rattle.reception.specs.Stays.{existing}
+use Rattle.arrivals.specs.Stays.{existing}
 
 -- a night that exists is counted
 pub existing-more : (p t n i : ℕ) → i < n → night-exists p (t + i) ≡ true → existing p (t + i) (n - i) ≡ suc (existing p (t + (i + 1)) (n - (i + 1)))

@@ -11,7 +11,7 @@ use lib.Seq.{drop-cons}
 use Rattle.std.proofs.shelf.Lists.{take-rest}
 use Rattle.std.specs.declared.option.Option.{Option}
 use Rattle.std.specs.declared.option.Option.the-variants.{Some, None}
-use Rattle.reception.specs.Lines.{of-kind, run-length, skipped, word, after, nth-word, digit-after, decimal-from}
+use Rattle.arrivals.specs.Lines.{of-kind, run-length, skipped, word, after, nth-word, digit-after, decimal-from}
 
 -- a byte of the kind makes the run longer by one
 pub run-more : (k : Bool) (bs : List ℕ) (i : ℕ) → i < length bs → of-kind k (getD bs i 0) ≡ true → run-length k (drop i bs) ≡ suc (run-length k (drop (i + 1) bs))

@@ -20,11 +20,11 @@ use Rattle.std.specs.declared.option.Option.{Option}
 use Rattle.std.specs.declared.option.Option.the-variants.{Some, None}
 use Rattle.std.specs.declared.result.Result.{Result}
 use Rattle.std.specs.declared.result.Result.the-variants.{Ok, Err}
-use Rattle.reception.specs.declared.stay.Stay.{Stay}
-use Rattle.reception.specs.declared.stay.Field.{Field}
-use Rattle.reception.specs.declared.stay.Field.the-variants.{Pitch, First, Nights, Booking}
-use Rattle.reception.specs.declared.stay.LineFault.{LineFault}
-use Rattle.reception.specs.declared.stay.LineFault.the-variants.{Missing, NotANumber, TooMany}
+use Rattle.arrivals.specs.declared.stay.Stay.{Stay}
+use Rattle.arrivals.specs.declared.stay.Field.{Field}
+use Rattle.arrivals.specs.declared.stay.Field.the-variants.{Pitch, First, Nights, Booking}
+use Rattle.arrivals.specs.declared.stay.LineFault.{LineFault}
+use Rattle.arrivals.specs.declared.stay.LineFault.the-variants.{Missing, NotANumber, TooMany}
 
 -- space, tab, carriage return
 abbrev pub is-blank : ℕ → Bool

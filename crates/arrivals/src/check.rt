@@ -3,10 +3,11 @@ ghost use mathlib.Core.Path.{_≡_};
 ghost use Prim.Native.Nat.{_+_, _^_, _<_, _≤_};
 ghost use Rattle.coding.specs.Bookings.{booking-exists};
 ghost use Rattle.coding.specs.Nights.{night-exists};
-ghost use Rattle.reception.specs.Stays.{existing, key-number, fault-after, fault-count, found, counted, unread};
+ghost use Rattle.arrivals.specs.Stays.{existing, key-number, fault-after, fault-count, found, sound-stay, counted, unread, with-outcome};
 use crate::findings::Findings;
 use crate::findings::NightFault;
 use crate::findings::Totals;
+use crate::outcome::Outcome;
 use crate::stay::Stay;
 use coding::Booking;
 use coding::BookingAsCoding;
@@ -111,37 +112,53 @@ fn fault_count(findings: Findings) -> u64
     nights + u64::from(!findings.booked)
 }
 
+/// Whether nothing is wrong with a stay, so that it may be entered.
+pub fn is_sound(findings: Findings) -> bool
+    ensures value { λ r. ⌜ r ≡ sound-stay findings ⌝ }
+{
+    fault_count(findings) == 0
+}
+
 impl Totals {
     /// Nothing counted yet.
     pub fn none() -> Totals
-        ensures value { λ r. ⌜ r ≡ record { stays = 0; nights = 0; faults = 0 } ⌝ }
+        ensures value { λ r. ⌜ r ≡ record { stays = 0; nights = 0; faults = 0; entered = 0; fullest = 0 } ⌝ }
     {
         Totals {
             stays: 0,
             nights: 0,
             faults: 0,
+            entered: 0,
+            fullest: 0,
         }
     }
 
-    /// The totals with one stay more, of which this was found.
-    pub fn with_stay(self, findings: Findings) -> Totals
-        ensures value { λ r. ⌜ r ≡ counted self findings ⌝ }
+    /// One stay more, of which this was found.
+    pub fn add_stay(&mut self, findings: Findings)
+        ensures after { λ _. ⌜ now (self .exit) ≡ counted (now (self .entry)) findings ⌝ }
     {
-        Totals {
-            stays: self.stays.saturating_add(1),
-            nights: self.nights.saturating_add(findings.listed),
-            faults: self.faults.saturating_add(fault_count(findings)),
-        }
+        self.stays = self.stays.saturating_add(1);
+        self.nights = self.nights.saturating_add(findings.listed);
+        self.faults = self.faults.saturating_add(fault_count(findings));
     }
 
-    /// The totals with one line more that cannot be read.
-    pub fn with_unread(self) -> Totals
-        ensures value { λ r. ⌜ r ≡ unread self ⌝ }
+    /// One line more that cannot be read.
+    pub fn add_unread(&mut self)
+        ensures after { λ _. ⌜ now (self .exit) ≡ unread (now (self .entry)) ⌝ }
     {
-        Totals {
-            stays: self.stays,
-            nights: self.nights,
-            faults: self.faults.saturating_add(1),
+        self.faults = self.faults.saturating_add(1);
+    }
+
+    /// One night more that was entered, or refused.
+    pub fn add_outcome(&mut self, outcome: Outcome)
+        ensures after { λ _. ⌜ now (self .exit) ≡ with-outcome (now (self .entry)) outcome ⌝ }
+    {
+        match outcome {
+            Outcome::Entered(load) => {
+                self.entered = self.entered.saturating_add(1);
+                self.fullest = self.fullest.max(load);
+            }
+            Outcome::Refused(_) => self.add_unread(),
         }
     }
 }

@@ -2,7 +2,7 @@
 ghost use mathlib.Core.Path.{_≡_};
 ghost use Prim.Native.Nat.{_≤_};
 ghost use lib.ListN.{length};
-ghost use Rattle.reception.specs.Lines.{is-blank as blank-byte, run-length, skipped, word, after, nth-word, digit-after, decimal, field-of, stay-of};
+ghost use Rattle.arrivals.specs.Lines.{is-blank as blank-byte, run-length, skipped, word, after, nth-word, digit-after, decimal, field-of, stay-of};
 use crate::stay::Field;
 use crate::stay::LineFault;
 use crate::stay::Stay;

@@ -1,1 +1,2 @@
+pub mod NightRegister
 pub mod Worked

@@ -1,5 +1,4 @@
 //! The edges of each coding, on both sides and in both directions, against numbers worked out by hand.
-use crate::tally::Tally;
 use coding::Booking;
 use coding::BookingAsCoding;
 use coding::BookingCoding;
@@ -18,10 +17,11 @@ use coding::items::CardPartialEq;
 use coding::items::LoanPartialEq;
 use coding::items::NightPartialEq;
 use std::io;
+use tally::tally::Tally;
 
 const MOST: u64 = 18_446_744_073_709_551_615;
 
-fn nights(rt: &impl Print) -> io::Result<()> {
+fn nights(rt: &LibcRuntime) -> io::Result<()> {
     let mut there = Tally::new();
     for (pitch, night, number) in [
         (0, 0, Some(0)),
@@ -36,9 +36,9 @@ fn nights(rt: &impl Print) -> io::Result<()> {
         (MOST, 0, None),
         (0, MOST, None),
     ] {
-        there.note(NightCoding.number(Night { pitch, night }) == number);
+        there.count(NightCoding.number(Night { pitch, night }) == number);
     }
-    there.print(rt, "nights to numbers")?;
+    there.show(rt, "nights to numbers")?;
     let mut back = Tally::new();
     for (number, pitch, night) in [
         (0, 0, 0),
@@ -48,44 +48,44 @@ fn nights(rt: &impl Print) -> io::Result<()> {
         (1_022_976, 999, 0),
         (1_023_707, 999, 731),
     ] {
-        back.note(NightCoding.item(number) == Some(Night { pitch, night }));
+        back.count(NightCoding.item(number) == Some(Night { pitch, night }));
     }
     for number in [732, 1_023, 1_023_708, 1_024_000, 1_048_575, 1_048_576, MOST] {
-        back.note(NightCoding.item(number) == None);
+        back.count(NightCoding.item(number) == None);
     }
-    back.note(NightCoding.width() == 20);
-    back.print(rt, "numbers to nights")
+    back.count(NightCoding.width() == 20);
+    back.show(rt, "numbers to nights")
 }
 
-fn cards(rt: &impl Print) -> io::Result<()> {
+fn cards(rt: &LibcRuntime) -> io::Result<()> {
     let mut tally = Tally::new();
     for number in [1, 2, 4_294_967_294, 4_294_967_295] {
-        tally.note(CardCoding.number(Card { number }) == Some(number));
-        tally.note(CardCoding.item(number) == Some(Card { number }));
+        tally.count(CardCoding.number(Card { number }) == Some(number));
+        tally.count(CardCoding.item(number) == Some(Card { number }));
     }
     for number in [0, 4_294_967_296, MOST] {
-        tally.note(CardCoding.number(Card { number }) == None);
-        tally.note(CardCoding.item(number) == None);
+        tally.count(CardCoding.number(Card { number }) == None);
+        tally.count(CardCoding.item(number) == None);
     }
-    tally.note(CardCoding.width() == 32);
-    tally.print(rt, "cards and numbers")
+    tally.count(CardCoding.width() == 32);
+    tally.show(rt, "cards and numbers")
 }
 
-fn bookings(rt: &impl Print) -> io::Result<()> {
+fn bookings(rt: &LibcRuntime) -> io::Result<()> {
     let mut tally = Tally::new();
     for number in [1, 2, 9_999_998, 9_999_999] {
-        tally.note(BookingCoding.number(Booking { number }) == Some(number));
-        tally.note(BookingCoding.item(number) == Some(Booking { number }));
+        tally.count(BookingCoding.number(Booking { number }) == Some(number));
+        tally.count(BookingCoding.item(number) == Some(Booking { number }));
     }
     for number in [0, 10_000_000, 16_777_215, 16_777_216, MOST] {
-        tally.note(BookingCoding.number(Booking { number }) == None);
-        tally.note(BookingCoding.item(number) == None);
+        tally.count(BookingCoding.number(Booking { number }) == None);
+        tally.count(BookingCoding.item(number) == None);
     }
-    tally.note(BookingCoding.width() == 24);
-    tally.print(rt, "bookings and numbers")
+    tally.count(BookingCoding.width() == 24);
+    tally.show(rt, "bookings and numbers")
 }
 
-fn loans(rt: &impl Print) -> io::Result<()> {
+fn loans(rt: &LibcRuntime) -> io::Result<()> {
     let mut tally = Tally::new();
     for (pitch, last, paid, number) in [
         (0, 0, false, 0),
@@ -96,11 +96,11 @@ fn loans(rt: &impl Print) -> io::Result<()> {
         (999, 731, false, 2_047_414),
         (999, 731, true, 2_047_415),
     ] {
-        tally.note(LoanCoding.number(Loan { pitch, last, paid }) == Some(number));
-        tally.note(LoanCoding.item(number) == Some(Loan { pitch, last, paid }));
+        tally.count(LoanCoding.number(Loan { pitch, last, paid }) == Some(number));
+        tally.count(LoanCoding.item(number) == Some(Loan { pitch, last, paid }));
     }
     for (pitch, last) in [(0, 732), (999, 732), (1_000, 0), (MOST, 0), (0, MOST)] {
-        tally.note(
+        tally.count(
             LoanCoding.number(Loan {
                 pitch,
                 last,
@@ -108,7 +108,7 @@ fn loans(rt: &impl Print) -> io::Result<()> {
             })
                 == None,
         );
-        tally.note(
+        tally.count(
             LoanCoding.number(Loan {
                 pitch,
                 last,
@@ -118,14 +118,14 @@ fn loans(rt: &impl Print) -> io::Result<()> {
         );
     }
     for number in [1_464, 1_465, 2_047, 2_047_416, 2_097_151, 2_097_152, MOST] {
-        tally.note(LoanCoding.item(number) == None);
+        tally.count(LoanCoding.item(number) == None);
     }
-    tally.note(LoanCoding.width() == 21);
-    tally.print(rt, "loans and numbers")
+    tally.count(LoanCoding.width() == 21);
+    tally.show(rt, "loans and numbers")
 }
 
 /// Runs every case and prints the counts.
-pub fn run(rt: &impl Print) -> io::Result<()> {
+pub fn run(rt: &LibcRuntime) -> io::Result<()> {
     nights(rt)?;
     cards(rt)?;
     bookings(rt)?;

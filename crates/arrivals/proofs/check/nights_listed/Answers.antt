@@ -1,7 +1,7 @@
 use mathlib.Core.Path.{sym}
 use native.Mathlib.Omega.{arith}
-use Rattle.reception.proofs.Nights.{existing-more, existing-ends, existing-none, last-night}
-use Rattle.reception.proofs.check.nights_listed.Needs as need
+use Rattle.arrivals.proofs.Nights.{existing-more, existing-ends, existing-none, last-night}
+use Rattle.arrivals.proofs.check.nights_listed.Needs as need
 
 pub returns-then-not-has-night : need.returns-then-not-has-night
 returns-then-not-has-night c =

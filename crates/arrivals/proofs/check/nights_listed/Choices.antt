@@ -1,7 +1,7 @@
 use Prim.Native.Nat.{_+_, _-_, _^_, _<_}
 use mathlib.Core.Path.{_≡_}
-use Rattle.reception.specs.Stays.{existing}
-use Rattle.reception.proofs.check.nights_listed.Given as given
+use Rattle.arrivals.specs.Stays.{existing}
+use Rattle.arrivals.proofs.check.nights_listed.Given as given
 
 -- the nights so far exist
 abbrev pub Inv-loop-i : given.InvT-loop-i

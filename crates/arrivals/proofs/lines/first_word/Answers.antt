@@ -1,5 +1,5 @@
-use Rattle.reception.proofs.Reading.{front-part}
-use Rattle.reception.proofs.lines.first_word.Needs as need
+use Rattle.arrivals.proofs.Reading.{front-part}
+use Rattle.arrivals.proofs.lines.first_word.Needs as need
 
 pub returns : need.returns
 returns c =

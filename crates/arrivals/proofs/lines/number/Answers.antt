@@ -1,6 +1,6 @@
 use mathlib.Core.Path.{_∙_, sym}
-use Rattle.reception.proofs.Reading.{digit-more, digit-none, digit-end}
-use Rattle.reception.proofs.lines.number.Needs as need
+use Rattle.arrivals.proofs.Reading.{digit-more, digit-none, digit-end}
+use Rattle.arrivals.proofs.lines.number.Needs as need
 
 pub returns-in-rest : need.returns-in-rest
 returns-in-rest c =

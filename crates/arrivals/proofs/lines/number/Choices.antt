@@ -1,7 +1,7 @@
 use mathlib.Core.Path.{_≡_}
 use lib.ListN.{drop}
-use Rattle.reception.specs.Lines.{decimal, decimal-from}
-use Rattle.reception.proofs.lines.number.Given as given
+use Rattle.arrivals.specs.Lines.{decimal, decimal-from}
+use Rattle.arrivals.proofs.lines.number.Given as given
 
 -- the digits so far wrote n
 abbrev pub Inv-loop-byte : given.InvT-loop-byte

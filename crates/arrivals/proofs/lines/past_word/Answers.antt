@@ -1,5 +1,5 @@
-use Rattle.reception.proofs.Reading.{rest-part}
-use Rattle.reception.proofs.lines.past_word.Needs as need
+use Rattle.arrivals.proofs.Reading.{rest-part}
+use Rattle.arrivals.proofs.lines.past_word.Needs as need
 
 pub returns : need.returns
 returns c =

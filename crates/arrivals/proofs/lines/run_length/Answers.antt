@@ -4,9 +4,9 @@ use Prim.Native.Nat.{_+_}
 use native.Mathlib.Omega.{arith}
 use lib.ListN.{getD}
 use Rattle.std.proofs.shelf.Tests.{not-true, not-false}
-use Rattle.reception.specs.Lines.{of-kind, run-length}
-use Rattle.reception.proofs.Reading.{run-more, run-ends, run-none}
-use Rattle.reception.proofs.lines.run_length.Needs as need
+use Rattle.arrivals.specs.Lines.{of-kind, run-length}
+use Rattle.arrivals.proofs.Reading.{run-more, run-ends, run-none}
+use Rattle.arrivals.proofs.lines.run_length.Needs as need
 
 pub returns-then-is-blank-blank : need.returns-then-is-blank-blank
 returns-then-is-blank-blank c =

@@ -1,7 +1,7 @@
 use Prim.Native.Nat.{_-_}
 use mathlib.Core.Path.{_≡_}
-use Rattle.reception.specs.Lines.{nth-word}
-use Rattle.reception.proofs.lines.word_at.Given as given
+use Rattle.arrivals.specs.Lines.{nth-word}
+use Rattle.arrivals.proofs.lines.word_at.Given as given
 
 -- the words so far are left behind
 abbrev pub Inv-loop-i : given.InvT-loop-i
