@@ -1,0 +1,13 @@
+pub mod Cut
+pub mod Lawful
+pub mod Found
+pub mod Scans
+pub mod Judged
+pub mod Asked
+pub mod Added
+pub mod Removed
+pub mod Runs
+pub mod Walked
+pub mod Halves
+pub mod Ranges
+pub mod Moving
