@@ -1,6 +1,6 @@
 //! Whether an area is zero from a bit on.
 ghost use mathlib.Core.Path.{_≡_};
-ghost use Prim.Native.Nat.{ℕ, _/_, _^_};
+ghost use Prim.Native.Nat.{_/_, _^_};
 ghost use Rattle.std.specs.Orderings.{Decides};
 ghost use Rattle.bits.specs.Area.{number};
 use crate::words::WORD;

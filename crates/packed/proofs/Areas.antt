@@ -1,25 +1,24 @@
 -- The areas of a block: what they hold, how long they are, and how a block is cut into them.
-use mathlib.Core.Path.{_≡_, refl, sym, ap, ap₂, subst, _∙_}
+use mathlib.Core.Path.{_≡_, refl, sym, ap, ap₂, _∙_}
 use mathlib.Core.List.{List, [], _∷_, _++_, map}
-use Prim.Native.Nat.{ℕ, zero, suc, _+_, _-_, _*_, _/_, _%_, _^_, _≤_, _<_}
+use Prim.Native.Nat.{ℕ, _+_, _-_, _*_, _/_, _^_, _≤_, _<_}
 use native.Mathlib.Nat.{mod-eq-of-lt, lt-of-lt-of-le, mul-le-mul-right}
 use native.Mathlib.Omega.{arith}
-use lib.ListN.{length, getD, set, take, drop, replicate}
+use lib.ListN.{length, getD, take, drop}
 use lib.Pow.{pow-mono, pow-pos}
-use borrow.Rule.Slice.PartMut.{putMid}
 use Rattle.std.specs.Iters.{counting}
-use Rattle.std.specs.shelf.Lists.{sum, joined}
+use Rattle.std.specs.shelf.Lists.{sum}
 use Rattle.std.proofs.shelf.Tests.{leb-true}
-use Rattle.std.proofs.shelf.Lists.{append-assoc, append-nil, length-append, length-map, length-drop, length-take-le, take-at, drop-at, drop-drop, take-append-drop, take-rest, ext-getD, getD-map, map-id}
+use Rattle.std.proofs.shelf.Lists.{length-append, length-map, length-drop, length-take-le, take-at, drop-at, drop-drop, take-append-drop, ext-getD, getD-map}
 use Rattle.std.proofs.shelf.Counted.{getD-map-counting, length-map-counting}
-use Rattle.bits.specs.Area.{number, words-of, bits, field, fields, packed}
+use Rattle.bits.specs.Area.{number, words-of, field, packed}
 use Rattle.bits.specs.Laws.{Below}
 use Rattle.bits.specs.Marks.{marks, mark-words, sizes}
-use Rattle.bits.proofs.Numbers.{length-words, number-words-fit, number-word}
-use Rattle.bits.proofs.Packs.{packed-lt, length-fields, getD-fields}
+use Rattle.bits.proofs.Numbers.{length-words, number-words-fit}
+use Rattle.bits.proofs.Packs.{packed-lt}
 use Rattle.bits.proofs.Lists.{read-packed}
-use Rattle.bits.proofs.Unary.{marks-lt, sizes-marks, marks-words}
-use Rattle.table.specs.Meaning.{total, Good}
+use Rattle.bits.proofs.Unary.{marks-lt, sizes-marks}
+use Rattle.table.specs.Meaning.{total}
 use Rattle.table.specs.Layout.{GoodGroup}
 use Rattle.packed.specs.Layout.{room, width, entries, areas, block-of, chop, quotient-area, value-area, mark-number, pairs, slots-of}
 use Rattle.packed.proofs.Chops.{chop-joined}
@@ -37,17 +36,9 @@ area-holds w xs h =
 pub area-number : (w : ℕ) (xs : List ℕ) → length xs ≤ 48 → number (words-of (room 1 w) (packed w xs)) ≡ packed w xs
 area-number w xs h = number-words-fit (room 1 w) (packed w xs) (area-holds w xs h)
 
--- how many words an area of at most 32 bits to a field has
-pub room-few : (w : ℕ) → w ≤ 32 → room 1 w ≤ 24
-unfolding room
-room-few w h = omega arith
-
 -- ---- the parts of a block
 
 module _ (k v b : ℕ) (P Q V : List ℕ) (one : length P ≡ 1) (qs : length Q ≡ room 1 (k - b)) where
-  marks-part : take 1 (P ++ (Q ++ V)) ≡ P
-  marks-part = take-at P (Q ++ V) 1 one
-
   quotient-part : quotient-area 1 k b (P ++ (Q ++ V)) ≡ Q
   quotient-part = ap (take (room 1 (k - b))) (drop-at P (Q ++ V) 1 one) ∙ take-at Q V (room 1 (k - b)) qs
 

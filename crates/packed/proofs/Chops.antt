@@ -1,12 +1,12 @@
 -- A list cut into pieces of given sizes, and pieces joined.
 use mathlib.Core.Path.{_≡_, refl, sym, ap, ap₂, _∙_}
 use mathlib.Core.List.{List, [], _∷_, _++_, map}
-use Prim.Native.Nat.{ℕ, zero, suc, _+_, _-_, _≤_, _<_}
+use Prim.Native.Nat.{ℕ, zero, suc, _+_, _≤_, _<_}
 use native.Mathlib.Omega.{arith}
 use lib.ListN.{length, getD, take, drop}
 use Rattle.std.specs.shelf.Lists.{sum, joined}
 use Rattle.std.proofs.shelf.Sums.{sumBy-cons}
-use Rattle.std.proofs.shelf.Lists.{length-append, length-drop, length-take-le, take-at, drop-at, take-append-drop, getD-take, getD-drop, nil-from-length}
+use Rattle.std.proofs.shelf.Lists.{length-drop, length-take-le, take-at, drop-at, take-append-drop, getD-take, getD-drop, nil-from-length}
 use Rattle.packed.specs.Layout.{chop}
 
 -- the sum of a list, from its first on

@@ -1,18 +1,17 @@
 -- The entries of a group, slot by slot: one put in at the end of a slot, one taken out of a slot.
 use mathlib.Core.Path.{_≡_, refl, sym, ap, ap₂, subst, _∙_}
 use mathlib.Core.List.{List, [], _∷_, _++_, map}
-use Prim.Native.Nat.{ℕ, zero, suc, _+_, _-_, _^_, _≤_, _<_}
+use Prim.Native.Nat.{ℕ, zero, suc, _+_, _≤_, _<_}
 use native.Mathlib.Omega.{arith}
 use lib.ListN.{length, getD, set, take, drop}
 use lib.Seq.{take-add}
-use lib.Pow.{pow-pos}
-use Rattle.std.specs.shelf.Lists.{sum, joined, inserted, removed}
+use Rattle.std.specs.shelf.Lists.{sum, inserted, removed}
 use Rattle.std.proofs.shelf.Lists.{append-assoc, length-append, map-append, take-map, drop-map, take-at, drop-at, drop-drop, take-append-le, drop-append-le, getD-map, getD-past, length-map}
 use Rattle.std.proofs.shelf.Tests.{cases-lt}
 use mathlib.Core.Logic.{⊎-elim}
 use Rattle.bits.specs.Laws.{Below}
 use Rattle.bits.proofs.Lists.{below-append}
-use Rattle.table.specs.Meaning.{total, Good}
+use Rattle.table.specs.Meaning.{total}
 use Rattle.packed.specs.Layout.{entries}
 use Rattle.packed.proofs.Chops.{sum-cons}
 

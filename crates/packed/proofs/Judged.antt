@@ -2,23 +2,22 @@
 use mathlib.Core.Path.{_≡_, refl, sym, ap, ap₂, subst, _∙_}
 use mathlib.Core.List.{List, [], _∷_, _++_, map}
 use mathlib.Core.Bool.{Bool, true, false}
-use mathlib.Core.Logic.{_⊎_, inl, inr, ⊎-elim}
-use Prim.Native.Nat.{ℕ, zero, suc, _+_, _-_, _*_, _/_, _%_, _^_, _<_, _≤_}
+use mathlib.Core.Logic.{⊎-elim}
+use Prim.Native.Nat.{ℕ, _+_, _-_, _*_, _/_, _%_, _^_, _<_, _≤_}
 use native.Mathlib.Nat.{div-eq-of-lt, zero-mul}
 use native.Mathlib.Omega.{arith}
 use lib.ListN.{length, getD, take, drop}
 use lib.Pow.{pow-pos, split}
 use Rattle.std.specs.Iters.{counting}
-use Rattle.std.specs.Orderings.{Decides, When}
-use Rattle.std.specs.shelf.Lists.{sum, joined}
-use Rattle.std.specs.declared.option.Option.the-variants.{Some, None}
+use Rattle.std.specs.Orderings.{Decides}
+use Rattle.std.specs.declared.option.Option.the-variants.{None}
 use Rattle.std.proofs.shelf.Tests.{cases-lt, le-leb}
 use Rattle.std.proofs.shelf.Ways.{not-from-decides}
 use Rattle.std.proofs.shelf.Lists.{ext-getD, length-map, getD-map}
-use Rattle.std.proofs.shelf.Counted.{getD-map-counting, length-map-counting}
-use Rattle.bits.specs.Area.{number, words-of, bits, field, fields, packed}
+use Rattle.std.proofs.shelf.Counted.{getD-map-counting}
+use Rattle.bits.specs.Area.{number, words-of, field, fields, packed}
 use Rattle.bits.specs.Laws.{Below}
-use Rattle.bits.specs.Marks.{marks, entries-before, Marked}
+use Rattle.bits.specs.Marks.{marks, entries-before}
 use Rattle.bits.proofs.Numbers.{words-number}
 use Rattle.bits.proofs.Packs.{packed-lt, packed-fields, length-fields, getD-fields}
 use Rattle.bits.proofs.Lists.{below-take, below-drop}
@@ -29,11 +28,11 @@ use Rattle.table.specs.Checking.{Given}
 use Rattle.table.specs.Layout.{GoodGroup}
 use Rattle.table.proofs.Slots.{none-apart}
 use Rattle.table.proofs.Zeros.{refuted, shown}
-use Rattle.packed.specs.Layout.{room, width, entries, areas, block-of, chop, quotient-area, value-area, pairs, slots-of, packed-table, Marked-block}
+use Rattle.packed.specs.Layout.{room, entries, quotient-area, value-area, pairs, slots-of, packed-table, Marked-block}
 use Rattle.packed.proofs.Entries.{length-entries}
-use Rattle.packed.proofs.Areas.{Parts, parts-of, block-parts, block-is}
+use Rattle.packed.proofs.Areas.{parts-of, block-parts, block-is}
 use Rattle.packed.proofs.Views.{entry-is, slots-sixteen, total-few, word-marks, entries-are, A, B}
-use Rattle.packed.proofs.Stored.{good-given, marked-given, quotients-given, values-given}
+use Rattle.packed.proofs.Stored.{quotients-given, values-given}
 
 module _ (k v b : ℕ) (block : List ℕ) (mb : Marked-block k v b block) where
   -- ---- one slot

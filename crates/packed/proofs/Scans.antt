@@ -1,7 +1,7 @@
 -- The blocks of a packed table's words, one by one, and the words past them.
-use mathlib.Core.Path.{_≡_, refl, sym, ap, ap₂, _∙_}
+use mathlib.Core.Path.{_≡_, sym, ap, ap₂, _∙_}
 use mathlib.Core.List.{List}
-use mathlib.Core.Bool.{true, false}
+use mathlib.Core.Bool.{true}
 use Prim.Native.Nat.{ℕ, _+_, _-_, _*_, _^_, _<_, _≤_}
 use native.Mathlib.Omega.{arith}
 use lib.ListN.{length, take, drop}
@@ -10,10 +10,10 @@ use Rattle.std.proofs.shelf.Lists.{take-rest}
 use Rattle.table.specs.declared.shape.Shape.{Shape}
 use Rattle.table.specs.Widths.{bounded, shape-where, widths}
 use Rattle.table.specs.Layout.{part}
-use Rattle.table.proofs.Shapes.{shaped, unshaped}
+use Rattle.table.proofs.Shapes.{shaped}
 use Rattle.table.proofs.Groups.{inside-groups}
 use Rattle.packed.specs.Layout.{width, fits}
-use Rattle.packed.proofs.Laws.{fitting, unbounded, too-few, enough}
+use Rattle.packed.proofs.Laws.{fitting, too-few, enough}
 
 module _ (ws : List ℕ) (k v b : ℕ) (fit : fits (length ws) k v b ≡ true) (n w : ℕ) (ns : n ≡ 2 ^ (b - 4)) (wide : w ≡ width 1 k v b) where
   -- the words of all blocks

@@ -1,29 +1,20 @@
 -- What a block with marks reads as: its slots, their sizes, and the fields of each entry.
 use mathlib.Core.Path.{_≡_, refl, sym, ap, ap₂, subst, _∙_}
-use mathlib.Core.List.{List, [], _∷_, _++_, map}
-use Prim.Native.Nat.{ℕ, zero, suc, _+_, _-_, _*_, _/_, _%_, _^_, _≤_, _<_}
+use mathlib.Core.List.{List, [], _∷_, map}
+use Prim.Native.Nat.{ℕ, zero, suc, _+_, _-_, _^_, _≤_, _<_}
 use native.Mathlib.Nat.{mod-eq-of-lt, lt-of-lt-of-le}
 use native.Mathlib.Omega.{arith}
 use lib.Count.{ones}
-use lib.ListN.{length, getD, take, drop}
+use lib.ListN.{length, getD, take}
 use lib.Pow.{pow-mono}
-use Rattle.std.specs.Iters.{counting}
 use Rattle.std.specs.shelf.Lists.{sum}
-use Rattle.std.specs.declared.option.Option.{Option}
-use Rattle.std.specs.declared.option.Option.the-variants.{Some, None}
-use Rattle.std.specs.declared.result.Result.{Result}
-use Rattle.std.specs.declared.result.Result.the-variants.{Ok, Err}
 use Rattle.std.proofs.shelf.Lists.{getD-map}
 use Rattle.std.proofs.shelf.Counted.{getD-map-counting, length-map-counting}
-use Rattle.std.proofs.shelf.Tests.{le-leb, lt-leb, lt-ltb, le-ltb}
 use Rattle.bits.specs.Area.{number, field, wide}
 use Rattle.bits.specs.Marks.{marks, sizes, entries-before, size-of}
 use Rattle.bits.proofs.Unary.{marks-lt, ones-marks, sizes-marks, sizes-front, size-marks}
 use Rattle.bits.proofs.Lists.{wide-is}
-use Rattle.table.specs.declared.refusal.TableRefusal.{TableRefusal}
-use Rattle.table.specs.declared.refusal.TableRefusal.the-variants.{Held, Full, OutOfRange}
-use Rattle.table.specs.Meaning.{total, value-in, weigh-held, weigh-room, picked, picked-at}
-use Rattle.table.specs.Places.{First}
+use Rattle.table.specs.Meaning.{total}
 use Rattle.packed.specs.Layout.{entries, chop, quotient-area, value-area, mark-number, pairs, slots-of, Marked-block}
 use Rattle.packed.proofs.Chops.{sizes-chop, length-chop, joined-chop, getD-chop, place-below}
 use Rattle.packed.proofs.Entries.{sum-sizes}

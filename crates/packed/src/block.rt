@@ -2,12 +2,10 @@
 ghost use mathlib.Core.Path.{_≡_};
 ghost use mathlib.Core.List.{[]};
 ghost use lib.ListN.{length, getD};
-ghost use Prim.Native.Nat.{ℕ, _+_, _-_, _<_, _≤_};
-ghost use Rattle.bits.specs.Area.{number, field};
-ghost use Rattle.bits.specs.Marks.{entries-before};
+ghost use Prim.Native.Nat.{_+_, _-_, _<_, _≤_};
 ghost use Rattle.table.specs.Meaning.{total, value-in, answer-of, picked, weigh-held};
 ghost use Rattle.table.specs.Places.{Placed};
-ghost use Rattle.packed.specs.Layout.{quotient-area, value-area, slots-of, Marked-block};
+ghost use Rattle.packed.specs.Layout.{slots-of, Marked-block};
 use crate::parts;
 use crate::parts::LIMIT;
 use bits::fields;

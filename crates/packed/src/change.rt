@@ -2,7 +2,7 @@
 ghost use mathlib.Core.Path.{_≡_};
 ghost use mathlib.Core.List.{[]};
 ghost use lib.ListN.{length, getD};
-ghost use Prim.Native.Nat.{ℕ, _+_, _-_, _^_, _<_, _≤_};
+ghost use Prim.Native.Nat.{_+_, _-_, _^_, _<_};
 ghost use Rattle.bits.specs.Area.{number, field-inserted, field-removed};
 ghost use Rattle.table.specs.Checking.{Given};
 ghost use Rattle.table.specs.Layout.{group-added, group-removed};

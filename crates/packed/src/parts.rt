@@ -1,7 +1,7 @@
 //! The parts of a block: one word of marks, then the quotients, then the values, each from a word on.
 ghost use mathlib.Core.Path.{_≡_};
 ghost use lib.ListN.{length};
-ghost use Prim.Native.Nat.{ℕ, _+_, _-_, _≤_};
+ghost use Prim.Native.Nat.{_+_, _-_, _≤_};
 ghost use Rattle.packed.specs.Layout.{room, width as wide, quotient-area, value-area};
 use table::shape::Shape;
 

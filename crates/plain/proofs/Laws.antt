@@ -11,7 +11,7 @@ use Rattle.std.proofs.shelf.Tests.{and-parts, leb-true, ltb-true, le-leb, lt-le
 use Rattle.std.specs.declared.option.Option.the-variants.{Some}
 use Rattle.table.specs.declared.shape.Shape.{Shape}
 use Rattle.table.specs.Widths.{bounded, shape-where, widths}
-use Rattle.table.proofs.Shapes.{shaped}
+use Rattle.table.proofs.Setting.{shape-fits}
 use Rattle.table.specs.Meaning.{total, Good, Fit}
 use Rattle.table.specs.Layout.{GoodGroup}
 use Rattle.table.specs.Lawful.{Lawful}
@@ -92,10 +92,7 @@ fit-law n k v b h =
 
 -- a shape made of widths that fit, fits
 pub fit-here : (n k v b : ℕ) (shape : Shape) → widths (Some shape) ≡ shape-where (fits n k v b) k v b → fits n (shape .k) (shape .v) (shape .b) ≡ true
-fit-here n k v b shape e =
-    let s = shaped (fits n k v b) k v b shape e in
-    let p : fits n (shape .k) (shape .v) (shape .b) ≡ fits n k v b = cc (s .ks, s .vs, s .bs) in
-    p ∙ s .holds
+fit-here n k v b shape e = shape-fits (fits n) k v b shape e
 
 shut : (t u : Bool) → ((t && false) && u) ≡ false
 shut true u = refl

@@ -5,13 +5,11 @@ use mathlib.Core.Bool.{Bool, true, false, _&&_}
 use Prim.Native.Nat.{ℕ, _+_, _-_, _*_, _/_, _%_, _^_, _<_, _≤_}
 use native.Mathlib.Nat.{div-one, mod-one}
 use native.Mathlib.Omega.{arith}
-use borrow.Author.Needs.{needs}
 use lib.Dec.{ltb}
 use lib.ListN.{length, getD, set, take, drop, replicate}
 use borrow.Rule.Slice.PartMut.{putMid}
 use Rattle.std.specs.Of.Vec.{vec-items}
 use Rattle.std.specs.Changed.{refilled}
-use Rattle.std.specs.declared.vec.Vec.{Vec}
 use Rattle.std.specs.declared.option.Option.{Option}
 use Rattle.std.specs.declared.option.Option.the-variants.{Some, None}
 use Rattle.std.specs.declared.result.Result.{Result}
@@ -24,8 +22,9 @@ use Rattle.table.specs.Widths.{shape-where, widths}
 use Rattle.table.specs.Layout.{group-at, group-added, group-removed, words-of, content, meaning, Well}
 use Rattle.table.specs.Checking.{Holds}
 use Rattle.table.proofs.Calls.{load-one}
-use Rattle.table.proofs.Shapes.{Shaped, shaped, unshaped}
-use Rattle.table.proofs.Standing.{bare, Stands, refilled-stands, stands-empty, stands-found}
+use Rattle.table.proofs.Setting.{form-step, count-moved, unfit}
+use Rattle.table.proofs.Shapes.{Shaped}
+use Rattle.table.proofs.Standing.{bare, Stands, refilled-stands, stands-found}
 use Rattle.table.proofs.Steps.{Step, means-here, well-here, inside, good-here, slot-here, block-here, read-here, add-step, remove-step}
 use Rattle.plain.specs.declared.state.PlainTable.{PlainTable}
 use Rattle.plain.specs.Layout.{block-of-group, entries-of, fits, plain, Stored}
@@ -146,34 +145,18 @@ size-loads t s = load-size (size t) (means t) (bare plain (size t) (means t) (t 
 pub form-table : (t : PlainTable) (k v b : ℕ) (shape : Shape) (n : ℕ) → n ≡ t .words .len → widths (Some shape) ≡ shape-where (fits n k v b) k v b
     → (ys : List ℕ) → ys ≡ items t → length ys ≡ t .words .len → (zs : List ℕ) → zs ≡ replicate (length ys) 0
     → Step plain plain-laws (size t) (vec-items (refilled (t .words) zs)) (Some shape) (Result (Unit {0}) TableRefusal) (formed-anew (fits (size t)) (means t) k v b) (Ok tt)
-form-table t k v b shape n ns made ys same long zs zero =
-    let s = shaped (fits n k v b) k v b shape made in
-    let len : size t ≡ t .words .len = sym (ap length same) ∙ long in
-    let fit : fits (size t) k v b ≡ true = ap (λ x. fits x k v b) (len ∙ sym ns) ∙ s .holds in
-    let p = ap (formed-at (means t) k v b) (sym fit) in
-    let st = stands-empty plain plain-laws (size t) zs shape k v b (s .ks) (s .vs) (s .bs) fit (zero ∙ ap (λ x. replicate x 0) (ap length same)) in
-    record {
-      stands = subst (Stands plain plain-laws (size t) (vec-items (refilled (t .words) zs)) (Some shape)) (ap (λ x. x .0) p)
-          (refilled-stands plain plain-laws (t .words) (Some shape) (formed k v b (replicate (2 ^ b) [])) zs len st);
-      value = ap (λ x. x .1) p;
-    }
+form-table t k v b shape n ns made ys same long zs zero = form-step plain plain-laws k v b (t .words) (means t) shape n ns made ys same zs zero
 
 -- keep, the words found to be a content's
 pub keep-table : (ws : List ℕ) (k v b : ℕ) (shape : Shape) → Shaped (fits (length ws) k v b) k v b shape
     → (slots : List (List (ℕ × ℕ))) → WellFormed 1 15 (fits (length ws)) k v b slots → ws ≡ words-of plain (length ws) (formed k v b slots) → Stands plain plain-laws (length ws) ws (Some shape) (formed k v b slots)
 keep-table ws k v b shape s slots f e = stands-found plain plain-laws (length ws) ws shape k v b (s .ks) (s .vs) (s .bs) slots f e
 
--- how many words a Vec holds
-pub len-items : {Z : Type 0} (t : Vec ℕ Z) → t .len ≡ length (vec-items t)
-len-items t = search needs
-
 -- a shape made for n words is one for these, n in number
 pub kept-table : (ws : List ℕ) (k v b : ℕ) (shape : Shape) (n : ℕ) → n ≡ length ws → widths (Some shape) ≡ shape-where (fits n k v b) k v b
     → widths (Some shape) ≡ shape-where (fits (length ws) k v b) k v b
-kept-table ws k v b shape n e h = subst (λ t. widths (Some shape) ≡ shape-where (fits t k v b) k v b) e h
+kept-table ws k v b shape n e h = count-moved fits n (length ws) k v b (Some shape) e h
 
 -- no shape, no content
 pub unfit-table : (ws : List ℕ) (k v b : ℕ) (n : ℕ) → n ≡ length ws → widths None ≡ shape-where (fits n k v b) k v b → Holds plain ws k v b → ⊥
-unfit-table ws k v b n e h x =
-    let f = ap (λ t. fits t k v b) (sym e) ∙ unshaped (fits n k v b) k v b h in
-    let z : _≡_ {A = ℕ} 0 1 = cc (f, x .well .fit) in omega arith
+unfit-table ws k v b n e h = unfit plain plain-laws k v b ws n e h

@@ -17,7 +17,7 @@ use Rattle.table.specs.declared.refusal.TableRefusal.{TableRefusal}
 use Rattle.table.specs.declared.shape.Shape.{Shape}
 use Rattle.table.specs.Meaning.{Meaning, formed, formed-anew, formed-at}
 use Rattle.table.specs.Widths.{shape-where, widths}
-use Rattle.table.specs.Layout.{Layout, meaning}
+use Rattle.table.specs.Layout.{Layout}
 use Rattle.table.specs.Lawful.{Lawful}
 use Rattle.table.specs.Checking.{Holds}
 use Rattle.table.proofs.Shapes.{shaped, unshaped}

@@ -1,5 +1,4 @@
 ghost use mathlib.Core.Path.{_≡_};
-ghost use Prim.Native.Nat.{ℕ};
 ghost use Rattle.table.specs.Meaning.{found, added, formed-anew, cleared, sized, entered, loaded, removed-from, admitted};
 ghost use Rattle.packed.specs.Layout.{fits as fit};
 ghost use Rattle.packed.specs.Means.{means, size};

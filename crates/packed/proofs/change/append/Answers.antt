@@ -1,5 +1,4 @@
 use native.Mathlib.Omega.{arith}
-use Rattle.packed.proofs.Views.{place-few}
 use Rattle.packed.proofs.Stored.{marked-given, refused-case, put-case}
 use Rattle.packed.proofs.change.append.Needs as need
 

@@ -1,5 +1,4 @@
 use native.Mathlib.Omega.{arith}
-use mathlib.Core.Path.{_≡_, ap, _∙_}
 use lib.ListN.{length}
 use Rattle.table.proofs.Checks.{wrong-here, wrong-tail, all-right, given-more}
 use Rattle.packed.specs.Layout.{packed-table}

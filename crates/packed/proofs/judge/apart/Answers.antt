@@ -1,7 +1,4 @@
-use mathlib.Core.Path.{sym, _∙_}
 use native.Mathlib.Omega.{arith}
-use Prim.Native.Nat.{_<_}
-use lib.ListN.{length, getD}
 use Rattle.packed.proofs.Judged.{apart-all, apart-more, twice, nowhere}
 use Rattle.packed.proofs.judge.apart.Needs as need
 

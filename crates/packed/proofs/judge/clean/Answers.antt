@@ -1,5 +1,3 @@
-use mathlib.Core.Path.{_≡_, sym, ap, ap₂, subst, _∙_}
-use Prim.Native.Nat.{_/_, _*_, _^_, _-_}
 use Rattle.packed.proofs.Judged.{past-clean, past-dirty}
 use Rattle.packed.proofs.judge.clean.Needs as need
 

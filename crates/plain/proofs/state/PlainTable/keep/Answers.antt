@@ -6,7 +6,8 @@ use Rattle.table.proofs.Shapes.{Shaped, shaped, moved}
 use Rattle.table.proofs.Standing.{stands-found}
 use Rattle.plain.specs.Layout.{plain, fits}
 use Rattle.plain.proofs.Laws.{plain-laws, fit-here}
-use Rattle.plain.proofs.Standing.{keep-table, kept-table, unfit-table, len-items}
+use Rattle.plain.proofs.Standing.{keep-table, kept-table, unfit-table}
+use Rattle.table.proofs.Setting.{len-items}
 use Rattle.plain.proofs.state.PlainTable.keep.Needs as need
 
 pub returns-in-rest : need.returns-in-rest
