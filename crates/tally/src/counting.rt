@@ -1,4 +1,6 @@
 ghost use Rattle.tally.specs.Counted.{counted};
+ghost use lib.Dec.{eqb};
+ghost use mathlib.Core.Bool.{false};
 ghost use mathlib.Core.Path.{_≡_};
 use crate::tally::Tally;
 use std::fmt;
@@ -30,7 +32,9 @@ impl Tally {
     }
 
     /// One case more, where a number was got and another is wanted; prints both where they differ.
-    pub fn equal(&mut self, rt: &impl Print, what: &str, got: u64, want: u64) -> io::Result<()> {
+    pub fn equal(&mut self, rt: &impl Print, what: &str, got: u64, want: u64) -> io::Result<()>
+        ensures after { λ _. ⌜ now (self .exit) ≡ counted (now (self .entry)) (eqb got want) ⌝ }
+    {
         self.count(got == want);
         if got != want {
             println!(rt, "  {what}: {got}, not {want}")?;
@@ -39,7 +43,9 @@ impl Tally {
     }
 
     /// One case more, which came out wrong since something was refused.
-    pub fn unmade(&mut self, rt: &impl Print) -> io::Result<()> {
+    pub fn unmade(&mut self, rt: &impl Print) -> io::Result<()>
+        ensures after { λ _. ⌜ now (self .exit) ≡ counted (now (self .entry)) false ⌝ }
+    {
         self.count(false);
         println!(rt, "  not set up")
     }
