@@ -10,6 +10,7 @@ use arrivals::findings::Totals;
 use arrivals::lines::read_stay;
 use arrivals::mix::mix;
 use arrivals::outcome::Outcome;
+use arrivals::place::Place;
 use arrivals::place::place_in;
 use arrivals::stay::Stay;
 use permutation::Permutation;
@@ -28,15 +29,13 @@ fn enter<T: Table>(table: &mut T, slot: u64, quotient: u64, booking: u64) -> Out
     }
 }
 
-/// Prints where the night with this key number stands, and enters it there.
-fn report_night<P: Permutation, T: Table>(
+/// Prints how a key number is scrambled and where it then stands.
+fn report_place<P: Permutation>(
     rt: &impl Print,
     permutation: &P,
-    table: &mut T,
     shape: Shape,
     key: u64,
-    booking: u64,
-) -> io::Result<Outcome> {
+) -> io::Result<Place> {
     let mixed = mix(permutation, key);
     let place = place_in(shape, mixed.scrambled);
     println!(
@@ -45,6 +44,16 @@ fn report_night<P: Permutation, T: Table>(
         mixed.scrambled, mixed.back
     )?;
     print!(rt, "    slot {} quotient {}: ", place.slot, place.quotient)?;
+    Ok(place)
+}
+
+/// Enters a booking at a place, and prints what came of it.
+fn report_entry<T: Table>(
+    rt: &impl Print,
+    table: &mut T,
+    place: Place,
+    booking: u64,
+) -> io::Result<Outcome> {
     let outcome = enter(table, place.slot, place.quotient, booking);
     match outcome {
         Outcome::Entered(load) => {
@@ -59,7 +68,7 @@ fn report_night<P: Permutation, T: Table>(
     Ok(outcome)
 }
 
-/// Prints each night of a stay that exists with its key number, and enters it where nothing is wrong with the stay.
+/// Prints each night of a stay that exists, and enters it where nothing is wrong with the stay.
 fn report_nights<P: Permutation, T: Table>(
     rt: &impl Print,
     permutation: &P,
@@ -79,9 +88,12 @@ fn report_nights<P: Permutation, T: Table>(
             stay.pitch,
             stay.first.saturating_add(i)
         )?;
+        let place = report_place(rt, permutation, shape, key)?;
         if is_sound(findings) {
-            let outcome = report_night(rt, permutation, table, shape, key, stay.booking)?;
+            let outcome = report_entry(rt, table, place, stay.booking)?;
             totals.add_outcome(outcome);
+        } else {
+            println!(rt, "not entered")?;
         }
     }
     Ok(())
