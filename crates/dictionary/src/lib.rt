@@ -1,5 +1,6 @@
 //! Key numbers to value numbers through one permutation and one table: whole operations, each judged before its first change.
 //! A table that holds a list of entries answers as the list does, and then holds the list after the operation.
+#![tactic(auto)]
 
 mod cancel;
 mod look;

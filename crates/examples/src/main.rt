@@ -1,4 +1,5 @@
 //! The worked examples: some proved of the definitions (`worked`), the others run and compared with what they should be.
+#![tactic(auto)]
 use std::io;
 
 mod bitwise;

@@ -1,5 +1,6 @@
 //! A register of keys and values over any codings, any permutation and any two tables: the seven calls, each by its own function and
 //! through `put`, and lists of calls through `replay`. Every answer is that of the plain machine of the crate `model`.
+#![tactic(auto)]
 
 mod assemble;
 mod calls;

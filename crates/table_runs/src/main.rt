@@ -1,4 +1,5 @@
 //! Runs of the tables: after each call the words are compared with words worked out here in another way.
+#![tactic(auto)]
 use std::io;
 
 mod packed_table;
