@@ -1,6 +1,7 @@
 //! A day's arrival list: how a line is read, what is found of a stay, and where its nights stand in a table.
 //! Everything that the program at the desk decides stands here; the program prints it.
 #![tactic(auto)]
+
 pub mod check;
 pub mod findings;
 pub mod layout;

@@ -1,6 +1,7 @@
 //! The entry of a day's arrival list into a night register: `desk [--layout packed|plain] [FILE]`, and without a file from standard input.
 //! It prints what came of each line. Both tables of the register are packed unless the other layout is asked for.
 #![tactic(auto)]
+
 use anyhow::anyhow;
 use std::{fs, io};
 

@@ -1,5 +1,6 @@
 //! Runs of the dictionary over packed and plain tables: each answer, and the words of both tables after each operation, compared with a plain list and formulas.
 #![tactic(auto)]
+
 use std::io;
 
 mod layout;

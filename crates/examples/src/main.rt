@@ -1,5 +1,6 @@
 //! The worked examples: some proved of the definitions (`worked`), the others run and compared with what they should be.
 #![tactic(auto)]
+
 use std::io;
 
 mod bitwise;

@@ -1,6 +1,7 @@
 //! Bijections of the numbers below 2^k, one interface and four kinds: the identity, a multiplication with an addition, an XOR with a
 //! shift, and a chain of any two. Each states by a formula what becomes of every number, and its laws hold of every value of its type.
 #![tactic(auto)]
+
 ghost use Rattle.std.specs.Prelude.{◌≡◌, ℕ, ◌^◌, ◌<◌, ◌≤◌};
 
 mod affine;

@@ -1,6 +1,7 @@
 //! The check of a day's arrival list: `reception [--layout packed|plain] [FILE]`, and without a file from standard input.
 //! Stays with which nothing is wrong are entered into a table, the packed one unless the other is asked for.
 #![tactic(auto)]
+
 use anyhow::anyhow;
 use std::{fs, io};
 

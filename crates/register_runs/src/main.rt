@@ -1,6 +1,7 @@
 //! Runs of the register: long lists of calls, refused ones too, lists replayed, and worked examples. Each answer, and the words of both tables
 //! after each call, are compared with a plain list and formulas.
 #![tactic(auto)]
+
 use std::io;
 use tally::tally::Tally;
 

@@ -1,5 +1,6 @@
 //! Runs of the tables: after each call the words are compared with words worked out here in another way.
 #![tactic(auto)]
+
 use std::io;
 
 mod packed_table;
