@@ -8,8 +8,8 @@ returns c =
     let ws = c.args.area.now in
     let w = c.usable-width.result in
     let n = c.args.count in
-    let e : c.min-end.result ≡ min ((n + 1) * w) (64 * length ws) = c.min-end.ensures ∙ ap (min ((n + 1) * w)) c.bit-len.ensures in
-    let l : c.max-last.result ≡ max (c.min-end.result - w) (c.min.result * w) = c.max-last.ensures ∙ ap (λ u. max u (c.min.result * w)) c.saturating-sub.ensures in
+    let e : c.min-end.result ≡ min ((n + 1) * w) (64 * length ws) = c.min-end.ensures ∙ ap (min ((n + 1) * w)) c.bit_len.ensures in
+    let l : c.max-last.result ≡ max (c.min-end.result - w) (c.min.result * w) = c.max-last.ensures ∙ ap (λ u. max u (c.min.result * w)) c.saturating_sub.ensures in
     insert_all ws c.raise.new.area _ w n c.args.index c.args.value c.min.result c.min-end.result c.max-last.result c.min.ensures e l
-    c.raise.auto.area c.raise.ensures c.write-bits.ensures
+    c.raise.auto.area c.raise.ensures c.write_bits.ensures
     ∙ ap (λ u. words_of (length ws) (field_inserted u n (number ws) c.args.index c.args.value)) c.usable-width.ensures.value

@@ -12,5 +12,5 @@ loop-at-preserved c =
     let k = c.min-size.result in
     let m = c.loop-at.at in
     let h : m + k ≤ 64 * length c.loop-at.area = omega (arith, c.requires.inside (omega arith), c.loop-at.auto.area) in
-    let w = put_inside c.loop-at.area _ m k _ h c.read-bits-moved.ensures.bound c.write-bits.ensures in
-    (omega arith, omega arith, lowered_more _ _ _ _ _ _ _ _ (omega arith) c.loop-at.invariant.2 c.read-bits-moved.ensures.value w)
+    let w = put_inside c.loop-at.area _ m k _ h c.read_bits-moved.ensures.bound c.write_bits.ensures in
+    (omega arith, omega arith, lowered_more _ _ _ _ _ _ _ _ (omega arith) c.loop-at.invariant.2 c.read_bits-moved.ensures.value w)

@@ -15,5 +15,5 @@ loop-at-preserved c =
     let i : Raised (number c.loop-at.area) (number c.args.area.now) (m + k) c.args.end c.args.by =
     subst (λ u. Raised (number c.loop-at.area) (number c.args.area.now) u c.args.end c.args.by) e c.loop-at.invariant.2 in
     let h : m + c.args.by + k ≤ 64 * length c.loop-at.area = omega (arith, c.requires.inside (omega arith), c.loop-at.auto.area) in
-    let w = put_inside c.loop-at.area _ (m + c.args.by) k _ h c.read-bits-moved.ensures.bound c.write-bits.ensures in
-    (omega arith, omega arith, raised_more _ _ _ _ _ _ _ _ (omega arith) i c.read-bits-moved.ensures.value w)
+    let w = put_inside c.loop-at.area _ (m + c.args.by) k _ h c.read_bits-moved.ensures.bound c.write_bits.ensures in
+    (omega arith, omega arith, raised_more _ _ _ _ _ _ _ _ (omega arith) i c.read_bits-moved.ensures.value w)

@@ -1,11 +1,11 @@
 use Rattle.bits.proofs.Scans.{remove_none, taken, begins_in}
 use Rattle.bits.proofs.marks.remove.Goals as goal
 
-pub overflow-shr-result : goal.overflow-shr-result
-overflow-shr-result c = begins_in c.args.word c.args.slot _ _ c.ranges.word.fits c.size.ensures.value c.if-size-eq0.false c.begin-first.ensures.value
+pub overflow_shr-result : goal.overflow_shr-result
+overflow_shr-result c = begins_in c.args.word c.args.slot _ _ c.ranges.word.fits c.size.ensures.value c.if-size-eq0.false c.begin-first.ensures.value
 
-pub overflow-shl-result : goal.overflow-shl-result
-overflow-shl-result c = begins_in c.args.word c.args.slot _ _ c.ranges.word.fits c.size.ensures.value c.if-size-eq0.false c.begin-first.ensures.value
+pub overflow_shl-result : goal.overflow_shl-result
+overflow_shl-result c = begins_in c.args.word c.args.slot _ _ c.ranges.word.fits c.size.ensures.value c.if-size-eq0.false c.begin-first.ensures.value
 
 pub returns-then-size-eq0 : goal.returns-then-size-eq0
 returns-then-size-eq0 c = remove_none c.args.word c.args.slot _ c.size.ensures.value c.if-size-eq0.true

@@ -6,14 +6,14 @@ use Rattle.bits.proofs.zeros.is_zero_from.Goals as goal
 pub loop-at-init : goal.loop-at-init
 loop-at-init c = (omega arith, zeros_none (number c.args.area.now) c.args.from)
 
-pub returns-then-read-bits-ne0 : goal.returns-then-read-bits-ne0
-returns-then-read-bits-ne0 c =
-    zeros_not (number c.args.area.now) c.args.from c.loop-at.at c.read-bits.result c.loop-at.invariant.0 c.read-bits.ensures.value c.if-read-bits-ne0.true
+pub returns-then-read_bits-ne0 : goal.returns-then-read_bits-ne0
+returns-then-read_bits-ne0 c =
+    zeros_not (number c.args.area.now) c.args.from c.loop-at.at c.read_bits.result c.loop-at.invariant.0 c.read_bits.ensures.value c.if-read_bits-ne0.true
 
 pub loop-at-preserved : goal.loop-at-preserved
 loop-at-preserved c = (
   omega (arith, c.loop-at.invariant.0),
-  zeros_more (number c.args.area.now) c.args.from c.loop-at.at c.read-bits.result c.loop-at.invariant.0 c.loop-at.invariant.1 c.read-bits.ensures.value c.if-read-bits-ne0.false,
+  zeros_more (number c.args.area.now) c.args.from c.loop-at.at c.read_bits.result c.loop-at.invariant.0 c.loop-at.invariant.1 c.read_bits.ensures.value c.if-read_bits-ne0.false,
 )
 
 pub returns : goal.returns

@@ -3,28 +3,28 @@ use Rattle.std.proofs.lemmas.Result.{err_from_is_err_and}
 use Rattle.table.proofs.Loads.{group_pos, sum_more, sum_stops, sum_ends, least_left, least_right}
 use Rattle.table.proofs.table.Table.load.Goals as goal
 
-pub returns-in-err-size : goal.returns-in-err-size
-returns-in-err-size g c =
+pub returns-in_err-size : goal.returns-in_err-size
+returns-in_err-size g c =
     let T = g.Self.Table in let t = c.args.self.now in let s = c.args.slot in let i = c.loop-i.i in
-    let p = err_from_is_err_and c.from-residual.result c.from-residual.ensures.1 in
+    let p = err_from_is_err_and c.from_residual.result c.from_residual.ensures.1 in
     record {
       value = λ h.
-          let e : c.saturating-add.result ≡ min (s / T.group * T.group + i) 18446744073709551615 =
-          c.saturating-add.ensures ∙ ap (λ n. min (s / n * n + i) 18446744073709551615) c.group-group.ensures.value in
+          let e : c.saturating_add.result ≡ min (s / T.group * T.group + i) 18446744073709551615 =
+          c.saturating_add.ensures ∙ ap (λ n. min (s / n * n + i) 18446744073709551615) c.group-group.ensures.value in
           let il : i < T.group = omega (arith, c.group-group.ensures.value, c.loop-i-test.true) in
           rw (p.1, p.2) (sum_stops T.group T.limit (group_pos T.group g.met.Self.Table.grouped) (T.fits t) (g.met.Self.Table.fitting t) (T.means t) (g.met.Self.Table.well t h)
-          s i c.loop-i.sum c.ranges.slot.fits il (c.loop-i.invariant h) c.saturating-add.result e c.in-err-size.field-0.0 (sym (c.size.ensures.value h) ∙ c.in-err-size.was));
+          s i c.loop-i.sum c.ranges.slot.fits il (c.loop-i.invariant h) c.saturating_add.result e c.in_err-size.field-0.0 (sym (c.size.ensures.value h) ∙ c.in_err-size.was));
     }
 
 pub loop-i-preserved : goal.loop-i-preserved
 loop-i-preserved g c h =
     let T = g.Self.Table in let t = c.args.self.now in let s = c.args.slot in let i = c.loop-i.i in
-    let e : c.saturating-add.result ≡ min (s / T.group * T.group + i) 18446744073709551615 =
-    c.saturating-add.ensures ∙ ap (λ n. min (s / n * n + i) 18446744073709551615) c.group-group.ensures.value in
+    let e : c.saturating_add.result ≡ min (s / T.group * T.group + i) 18446744073709551615 =
+    c.saturating_add.ensures ∙ ap (λ n. min (s / n * n + i) 18446744073709551615) c.group-group.ensures.value in
     let il : i < T.group = omega (arith, c.group-group.ensures.value, c.loop-i-test.true) in
     sum_more T.group T.limit (group_pos T.group g.met.Self.Table.grouped) (T.fits t) (g.met.Self.Table.fitting t) (T.means t) (g.met.Self.Table.well t h)
-    s i c.loop-i.sum il (c.loop-i.invariant h) c.saturating-add.result e c.in-ok-size.size (sym (c.size.ensures.value h) ∙ c.in-ok-size.was)
-    c.saturating-add-sum.result c.saturating-add-sum.ensures
+    s i c.loop-i.sum il (c.loop-i.invariant h) c.saturating_add.result e c.in_ok-size.size (sym (c.size.ensures.value h) ∙ c.in_ok-size.was)
+    c.saturating_add-sum.result c.saturating_add-sum.ensures
 
 pub returns-then-sum-limit : goal.returns-then-sum-limit
 returns-then-sum-limit g c =
@@ -32,7 +32,7 @@ returns-then-sum-limit g c =
     record {
       value = λ h.
           let is : c.loop-i.i ≡ T.group = omega (arith, c.group-group.ensures.value, c.loop-i-test.false, c.loop-i.auto.i-end) in
-          let small : T.limit < 18446744073709551616 = omega (arith, c.limit-limit.ensures.value, c.limit-limit.type-inv) in
+          let small : T.limit < 18446744073709551616 = omega (arith, c.limit-limit.ensures.value, c.limit-limit.type_inv) in
           let less : c.loop-i.sum < T.limit = omega (arith, c.limit-limit.ensures.value, c.if-sum-limit.true) in
           ap Ok (least_left c.loop-i.sum T.limit less)
           ∙ sum_ends T.group T.limit (group_pos T.group g.met.Self.Table.grouped) (T.fits t) (g.met.Self.Table.fitting t) (T.means t) (g.met.Self.Table.well t h)
@@ -45,7 +45,7 @@ returns-else-sum-limit g c =
     record {
       value = λ h.
           let is : c.loop-i.i ≡ T.group = omega (arith, c.group-group.ensures.value, c.loop-i-test.false, c.loop-i.auto.i-end) in
-          let small : T.limit < 18446744073709551616 = omega (arith, c.limit-limit.ensures.value, c.limit-limit.type-inv) in
+          let small : T.limit < 18446744073709551616 = omega (arith, c.limit-limit.ensures.value, c.limit-limit.type_inv) in
           let more : T.limit ≤ c.loop-i.sum = omega (arith, c.limit-limit.ensures.value, c.if-sum-limit.false) in
           ap Ok (c.limit-limit.ensures.value ∙ least_right c.loop-i.sum T.limit more)
           ∙ sum_ends T.group T.limit (group_pos T.group g.met.Self.Table.grouped) (T.fits t) (g.met.Self.Table.fitting t) (T.means t) (g.met.Self.Table.well t h)
