@@ -3,4 +3,4 @@ use Rattle.arrivals.proofs.lines.first_word.Goals as goal
 
 pub returns : goal.returns
 returns c =
-    record { value = front_part _ _ _ c.run-length-blanks.ensures.value c.run-length-size.ensures.value }
+    record { value = front_part _ _ _ c.run_length-blanks.ensures.value c.run_length-size.ensures.value }

@@ -2,9 +2,9 @@ use Rattle.std.proofs.Common.{sym, ◌∙◌}
 use Rattle.arrivals.proofs.Reading.{digit_more, digit_none, digit_end}
 use Rattle.arrivals.proofs.lines.number.Goals as goal
 
-pub returns-in-default : goal.returns-in-default
-returns-in-default c =
-    record { value = sym (c.loop-byte.invariant ∙ digit_none _ _ _ c.loop-byte-test.true (sym c.in-default.ensures.value)) }
+pub returns-in_default : goal.returns-in_default
+returns-in_default c =
+    record { value = sym (c.loop-byte.invariant ∙ digit_none _ _ _ c.loop-byte-test.true (sym c.in_default.ensures.value)) }
 
 pub loop-byte-preserved : goal.loop-byte-preserved
 loop-byte-preserved c =

@@ -3,4 +3,4 @@ use Rattle.arrivals.proofs.lines.past_word.Goals as goal
 
 pub returns : goal.returns
 returns c =
-    record { value = rest_part _ _ _ c.run-length-blanks.ensures.value c.run-length-size.ensures.value }
+    record { value = rest_part _ _ _ c.run_length-blanks.ensures.value c.run_length-size.ensures.value }
