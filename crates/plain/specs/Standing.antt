@@ -118,7 +118,7 @@ same_words t u n m = u.exact ∙ ap₂ (words_of plain) n m ∙ sym t.exact
 
 -- a formed table's meaning is well formed
 pub well_formed : (t : PlainTable) (k v b : ℕ) (slots : List (List (ℕ × ℕ))) → means t ≡ formed k v b slots → WellFormed 1 15 (fits (size t)) k v b slots
-well_formed t k v b slots e = subst (Well plain (size t)) e (bare plain (size t) (means t) t.well)
+well_formed t k v b ss e = subst (Well plain (size t)) e (bare plain (size t) (means t) t.well)
 
 one_load : (slots : List (List (ℕ × ℕ))) (s n : ℕ) → length slots ≡ n → (t : Bool) → nat_lt s n ≡ t → sized_at slots s t ≡ loaded_at 1 slots s t
 one_load slots s n e false l = refl

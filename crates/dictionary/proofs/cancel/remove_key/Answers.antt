@@ -9,10 +9,10 @@ returns g c =
     let narrow : c.args.shape.b ≤ c.args.shape.k = omega (arith, c.args.shape.below) in
     record {
       value = λ l st inside u held.
-          removed_ok law st narrow (record { mixed = c.forth.ensures; slot = c.place-of-place.ensures.slot; quotient = c.place-of-place.ensures.quotient }) inside u held
+          removed_ok law st narrow (record { mixed = c.forth.ensures; slot = c.place_of-place.ensures.slot; quotient = c.place_of-place.ensures.quotient }) inside u held
           c.remove.result c.remove.ensures.value;
       after = λ l st inside u held.
-          removed_stores law st narrow (record { mixed = c.forth.ensures; slot = c.place-of-place.ensures.slot; quotient = c.place-of-place.ensures.quotient }) inside u held
+          removed_stores law st narrow (record { mixed = c.forth.ensures; slot = c.place_of-place.ensures.slot; quotient = c.place_of-place.ensures.quotient }) inside u held
           c.remove.new.self c.remove.ensures.sound c.remove.ensures.after;
       len = c.remove.ensures.len;
       fits = c.remove.ensures.fits;

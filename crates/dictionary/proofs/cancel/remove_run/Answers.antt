@@ -16,15 +16,15 @@ loop-i-init g c = (
 
 pub loop-i-preserved : goal.loop-i-preserved
 loop-i-preserved g c = (
-  c.remove-key.ensures.len ∙ c.loop-i.invariant.0,
-  c.remove-key.ensures.fits ∙ c.loop-i.invariant.1,
+  c.remove_key.ensures.len ∙ c.loop-i.invariant.0,
+  c.remove_key.ensures.fits ∙ c.loop-i.invariant.1,
   λ es st there none.
       let i = c.loop-i.i in
       let within = c.loop-i-test.true in
       let e : suc i ≡ i + 1 = omega arith in
-      subst (λ (x : Entries). Stores g.T.Table (mixing g.P.Permutation c.args.permutation.now) c.remove-key.new.table c.args.shape.k c.args.shape.v c.args.shape.b x)
+      subst (λ (x : Entries). Stores g.T.Table (mixing g.P.Permutation c.args.permutation.now) c.remove_key.new.table c.args.shape.k c.args.shape.v c.args.shape.b x)
       (sym (without_last es c.args.m i) ∙ ap (λ x. without_run c.args.m x es) e)
-      (c.remove-key.ensures.after (without_run c.args.m i es) (c.loop-i.invariant.2 es st there none) (there i within).0 c.args.w (held_still es c.args.m c.args.w c.args.n i within none)),
+      (c.remove_key.ensures.after (without_run c.args.m i es) (c.loop-i.invariant.2 es st there none) (there i within).0 c.args.w (held_still es c.args.m c.args.w c.args.n i within none)),
 )
 
 pub returns-in-Err : goal.returns-in-Err
@@ -32,13 +32,13 @@ returns-in-Err g c =
     let never : (es : Entries) (st : _) (there : _) (none : _) → ⊥ = λ es st there none.
     let i = c.loop-i.i in
     let within = c.loop-i-test.true in
-    not_both c.remove-key.result c.args.w c.in-Err.field-0
-    (c.remove-key.ensures.value (without_run c.args.m i es) (c.loop-i.invariant.2 es st there none) (there i within).0 c.args.w (held_still es c.args.m c.args.w c.args.n i within none)) c.in-Err.is in
+    not_both c.remove_key.result c.args.w c.in-Err.field-0
+    (c.remove_key.ensures.value (without_run c.args.m i es) (c.loop-i.invariant.2 es st there none) (there i within).0 c.args.w (held_still es c.args.m c.args.w c.args.n i within none)) c.in-Err.is in
     record {
       value = λ es st there none. absurd (never es st there none);
       after = λ es st there none. absurd (never es st there none);
-      len = c.remove-key.ensures.len ∙ c.loop-i.invariant.0;
-      fits = c.remove-key.ensures.fits ∙ c.loop-i.invariant.1;
+      len = c.remove_key.ensures.len ∙ c.loop-i.invariant.0;
+      fits = c.remove_key.ensures.fits ∙ c.loop-i.invariant.1;
     }
 
 pub returns : goal.returns

@@ -21,15 +21,15 @@ loop-slot-preserved g c es st =
     stepped : (left size before after here i : ℕ) → left + before ≡ i → size ≡ here → after ≡ before + here → size ≤ left → left - size + after ≡ i
     stepped left size before after here i a b d e = omega arith
 
-pub returns-in-default-permuted-at : goal.returns-in-default-permuted-at
-returns-in-default-permuted-at g c = record {
+pub returns-in_default-permuted_at : goal.returns-in_default-permuted_at
+returns-in_default-permuted_at g c = record {
   value = λ es st.
       let slot : ℕ → ℕ = slot_of (g.P.Permutation.forth c.args.permutation.now) c.args.shape.k c.args.shape.b in
       let s = c.loop-slot.slot in
       let here : s < 2 ^ c.args.shape.b = omega (arith, one_shl c.args.shape.b 64 (omega (arith, c.args.shape.below, c.args.shape.narrow)), c.loop-slot-test.true) in
       let size : c.in-Ok.size ≡ length (in_slot slot s es) = same_ok (sym c.in-Ok.is ∙ size_told st s here c.size.result c.size.ensures.value) in
       let less : c.loop-slot.left < length (in_slot slot s es) = subst (λ n. c.loop-slot.left < n) size c.if-left-size.true in
-      absurd (some_none c.permuted-at.result _ (c.permuted-at.ensures (mixing g.P.Permutation c.args.permutation.now) es st here less) c.in-default-permuted-at.is);
+      absurd (some_none c.permuted_at.result _ (c.permuted_at.ensures (mixing g.P.Permutation c.args.permutation.now) es st here less) c.in_default-permuted_at.is);
 }
 
 pub returns-then-left-size : goal.returns-then-left-size
@@ -46,7 +46,7 @@ returns-then-left-size g c = record {
       let less : c.loop-slot.left < length (in_slot slot s es) = subst (λ n. c.loop-slot.left < n) size c.if-left-size.true in
       let e = get_or (in_slot slot s es) c.loop-slot.left (0, 0) in
       taken_back forth (g.P.Permutation.back c.args.permutation.now) e c.in-Some.y c.in-Some.w c.back.result (g.met.P.Permutation.returns c.args.permutation.now e.0)
-      (sym c.in-Some.is ∙ c.permuted-at.ensures (mixing g.P.Permutation c.args.permutation.now) es st here less) c.back.ensures
+      (sym c.in-Some.is ∙ c.permuted_at.ensures (mixing g.P.Permutation c.args.permutation.now) es st here less) c.back.ensures
       ∙ sym (listed_there slot es c.args.shape.b (slots_below (mixes law c.args.permutation.now c.args.shape.k st.widths) c.args.shape.b narrow es st.below)
       quotient s c.loop-slot.left c.args.i here less (c.loop-slot.invariant es st));
 }

@@ -8,5 +8,5 @@ returns g c = record {
   value = λ l st.
       let law = lawful g.P.Permutation g.T.Table g.met.P.Permutation.within g.met.P.Permutation.returns g.met.P.Permutation.beyond g.met.T.Table.grouped in
       let narrow : c.args.shape.b ≤ c.args.shape.k = omega (arith, c.args.shape.below) in
-      looked law st narrow (record { mixed = c.forth.ensures; slot = c.place-of-place.ensures.slot; quotient = c.place-of-place.ensures.quotient }) c.find.result c.find.ensures.value;
+      looked law st narrow (record { mixed = c.forth.ensures; slot = c.place_of-place.ensures.slot; quotient = c.place_of-place.ensures.quotient }) c.find.result c.find.ensures.value;
 }

@@ -3,8 +3,8 @@ use Rattle.dictionary.proofs.Runs.{not_both}
 use Rattle.dictionary.proofs.Walked.{entry_told, joined_told}
 use Rattle.dictionary.proofs.look.permuted_at.Goals as goal
 
-pub returns-in-default : goal.returns-in-default
-returns-in-default g c mix l st here less = absurd (not_both c.entry.result _ c.in-default.field-0 (entry_told st c.args.slot c.args.i here less c.entry.result c.entry.ensures.value) c.in-default.is)
+pub returns-in_default : goal.returns-in_default
+returns-in_default g c mix l st here less = absurd (not_both c.entry.result _ c.in_default.field-0 (entry_told st c.args.slot c.args.i here less c.entry.result c.entry.ensures.value) c.in_default.is)
 
 pub returns : goal.returns
 returns g c mix l st here less =

@@ -9,8 +9,8 @@ use Rattle.dictionary.proofs.Moving.{lawful_mixes}
 use Rattle.dictionary.proofs.Ranges.{all_hold, group_inside, group_told, not_hold, two_shl, whole_groups}
 use Rattle.dictionary.proofs.moves.all_hold.Goals as goal
 
-pub overflow-mul-g : goal.overflow-mul-g
-overflow-mul-g g c =
+pub overflow_mul-g : goal.overflow_mul-g
+overflow_mul-g g c =
     let twice = two_shl c.args.shape.b (omega (arith, c.args.shape.below, c.args.shape.narrow)) in
     let wide : 2 ^ (c.args.shape.b + 1) ≤ 2 ^ 32 = let le : c.args.shape.b + 1 ≤ 32 = omega (arith, c.args.shape.below, c.args.shape.narrow) in pow_mono le in
     let inside = group_inside ((2 * 2 ^ c.args.shape.b) % 2 ^ 64) c.group-size.result c.loop-g.g c.loop-g-test.true in

@@ -19,11 +19,11 @@ loop-slot-init g c = (
 
 pub loop-slot-preserved : goal.loop-slot-preserved
 loop-slot-preserved g c = (
-  c.move-slot.ensures.len ∙ c.loop-slot.invariant.0,
-  c.move-slot.ensures.fits ∙ c.loop-slot.invariant.1,
+  c.move_slot.ensures.len ∙ c.loop-slot.invariant.0,
+  c.move_slot.ensures.fits ∙ c.loop-slot.invariant.1,
   λ mix es law st hold to.
       let here : c.loop-slot.slot < 2 ^ c.args.shape.b = omega (arith, one_shl c.args.shape.b 64 (omega (arith, c.args.shape.below, c.args.shape.narrow)), c.loop-slot-test.true) in
-      c.move-slot.ensures.after mix es law st here hold (c.loop-slot.invariant.2 mix es law st hold to),
+      c.move_slot.ensures.after mix es law st here hold (c.loop-slot.invariant.2 mix es law st hold to),
 )
 
 pub returns-in-Err : goal.returns-in-Err
@@ -36,18 +36,18 @@ returns-in-Err g c = record {
   fits = c.form.ensures.fits;
 }
 
-pub returns-in-Err-move-slot : goal.returns-in-Err-move-slot
-returns-in-Err-move-slot g c = record {
+pub returns-in-Err-move_slot : goal.returns-in-Err-move_slot
+returns-in-Err-move_slot g c = record {
   value = λ mix es law st sound fit hold.
       let here : c.loop-slot.slot < 2 ^ c.args.shape.b = omega (arith, one_shl c.args.shape.b 64 (omega (arith, c.args.shape.below, c.args.shape.narrow)), c.loop-slot-test.true) in
       let to = formed_stores c.args.shape.b c.args.second.now c.form.new.self st.widths (c.form.ensures.sound sound) fit (c.form.ensures.after sound) in
-      absurd (not_both c.move-slot.result tt c.in-Err-move-slot.e (c.move-slot.ensures.value mix es law st here hold (c.loop-slot.invariant.2 mix es law st hold to)) c.in-Err-move-slot.is);
+      absurd (not_both c.move_slot.result tt c.in-Err-move_slot.e (c.move_slot.ensures.value mix es law st here hold (c.loop-slot.invariant.2 mix es law st hold to)) c.in-Err-move_slot.is);
   after = λ mix es law st sound fit hold.
       let here : c.loop-slot.slot < 2 ^ c.args.shape.b = omega (arith, one_shl c.args.shape.b 64 (omega (arith, c.args.shape.below, c.args.shape.narrow)), c.loop-slot-test.true) in
       let to = formed_stores c.args.shape.b c.args.second.now c.form.new.self st.widths (c.form.ensures.sound sound) fit (c.form.ensures.after sound) in
-      absurd (not_both c.move-slot.result tt c.in-Err-move-slot.e (c.move-slot.ensures.value mix es law st here hold (c.loop-slot.invariant.2 mix es law st hold to)) c.in-Err-move-slot.is);
-  len = c.move-slot.ensures.len ∙ c.loop-slot.invariant.0 ∙ c.form.ensures.len;
-  fits = c.move-slot.ensures.fits ∙ c.loop-slot.invariant.1 ∙ c.form.ensures.fits;
+      absurd (not_both c.move_slot.result tt c.in-Err-move_slot.e (c.move_slot.ensures.value mix es law st here hold (c.loop-slot.invariant.2 mix es law st hold to)) c.in-Err-move_slot.is);
+  len = c.move_slot.ensures.len ∙ c.loop-slot.invariant.0 ∙ c.form.ensures.len;
+  fits = c.move_slot.ensures.fits ∙ c.loop-slot.invariant.1 ∙ c.form.ensures.fits;
 }
 
 pub returns : goal.returns

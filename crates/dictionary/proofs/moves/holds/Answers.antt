@@ -14,24 +14,24 @@ loop-i-preserved g c mix es st h =
     let slot : ℕ → ℕ = slot_of mix.forth c.args.shape.k (c.args.shape.b + 1) in
     let i = c.loop-i.i in
     let inside : c.args.start + i < 2 ^ (c.args.shape.b + 1) = omega (arith, c.loop-i-test.true) in
-    let n_is = same_some (sym c.in-Some.is ∙ c.moved-size.ensures mix es st inside) in
+    let n_is = same_some (sym c.in-Some.is ∙ c.moved_size.ensures mix es st inside) in
     stepped c.loop-i.room c.in-Some.n (range_load slot c.args.start i es) (range_load slot c.args.start (i + 1) es) (count_if (λ e. eqb (slot e.0) (c.args.start + i)) es) c.args.limit
     (c.loop-i.invariant mix es st h) n_is (range_more slot es c.args.start i) c.if-room-n.false
   where
     stepped : (room n before after here limit : ℕ) → room + before ≡ limit → n ≡ here → after ≡ before + here → n ≤ room → room - n + after ≡ limit
     stepped room n before after here limit a b d e = omega arith
 
-pub returns-in-default : goal.returns-in-default
-returns-in-default g c mix es st h =
+pub returns-in_default : goal.returns-in_default
+returns-in_default g c mix es st h =
     let inside : c.args.start + c.loop-i.i < 2 ^ (c.args.shape.b + 1) = omega (arith, c.loop-i-test.true) in
-    absurd (some_none c.moved-size.result _ (c.moved-size.ensures mix es st inside) c.in-default.is)
+    absurd (some_none c.moved_size.result _ (c.moved_size.ensures mix es st inside) c.in_default.is)
 
 pub returns-then-room-n : goal.returns-then-room-n
 returns-then-room-n g c mix es st h =
     let slot : ℕ → ℕ = slot_of mix.forth c.args.shape.k (c.args.shape.b + 1) in
     let i = c.loop-i.i in
     let inside : c.args.start + i < 2 ^ (c.args.shape.b + 1) = omega (arith, c.loop-i-test.true) in
-    let n_is = same_some (sym c.in-Some.is ∙ c.moved-size.ensures mix es st inside) in
+    let n_is = same_some (sym c.in-Some.is ∙ c.moved_size.ensures mix es st inside) in
     let most : i + 1 ≤ c.args.size = omega (arith, c.loop-i-test.true) in
     sym (lt-leb (range_load slot c.args.start c.args.size es) c.args.limit
     (over c.loop-i.room c.in-Some.n (range_load slot c.args.start i es) (range_load slot c.args.start (i + 1) es) (range_load slot c.args.start c.args.size es) (count_if (λ e. eqb (slot e.0) (c.args.start + i)) es) c.args.limit

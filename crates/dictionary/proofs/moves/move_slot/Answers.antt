@@ -25,26 +25,26 @@ loop-i-preserved g c = (
       let size = same_ok (sym c.in-Ok.is ∙ size_told st c.args.slot here c.size.result c.size.ensures.value) in
       let less = subst (λ n. c.loop-i.i < n) size c.loop-i-test.true in
       turn_stores g.met.A.Table.well st (some_slot g.B.Table.group g.met.B.Table.grouped) (lawful_mixes mix law c.args.shape.k st.widths) c.args.shape.below hold c.args.slot c.loop-i.i here less
-      (c.loop-i.invariant.2 mix es law st here hold to) (sym c.in-Some.is ∙ c.permuted-at.ensures mix es st here less) c.place-of-place.ensures.slot c.place-of-place.ensures.quotient
+      (c.loop-i.invariant.2 mix es law st here hold to) (sym c.in-Some.is ∙ c.permuted_at.ensures mix es st here less) c.place_of-place.ensures.slot c.place_of-place.ensures.quotient
       c.add.new.self c.add.ensures.sound c.add.ensures.after,
 )
 
-pub returns-in-default : goal.returns-in-default
-returns-in-default g c = record {
-  value = λ mix es law st here hold to. absurd (not_both c.size.result _ c.in-default.field-0 (size_told st c.args.slot here c.size.result c.size.ensures.value) c.in-default.is);
-  after = λ mix es law st here hold to. absurd (not_both c.size.result _ c.in-default.field-0 (size_told st c.args.slot here c.size.result c.size.ensures.value) c.in-default.is);
+pub returns-in_default : goal.returns-in_default
+returns-in_default g c = record {
+  value = λ mix es law st here hold to. absurd (not_both c.size.result _ c.in_default.field-0 (size_told st c.args.slot here c.size.result c.size.ensures.value) c.in_default.is);
+  after = λ mix es law st here hold to. absurd (not_both c.size.result _ c.in_default.field-0 (size_told st c.args.slot here c.size.result c.size.ensures.value) c.in_default.is);
   len = refl;
   fits = refl;
 }
 
-pub returns-in-default-permuted-at : goal.returns-in-default-permuted-at
-returns-in-default-permuted-at g c = record {
+pub returns-in_default-permuted_at : goal.returns-in_default-permuted_at
+returns-in_default-permuted_at g c = record {
   value = λ mix es law st here hold to.
       let size = same_ok (sym c.in-Ok.is ∙ size_told st c.args.slot here c.size.result c.size.ensures.value) in
-      absurd (some_none c.permuted-at.result _ (c.permuted-at.ensures mix es st here (subst (λ n. c.loop-i.i < n) size c.loop-i-test.true)) c.in-default-permuted-at.is);
+      absurd (some_none c.permuted_at.result _ (c.permuted_at.ensures mix es st here (subst (λ n. c.loop-i.i < n) size c.loop-i-test.true)) c.in_default-permuted_at.is);
   after = λ mix es law st here hold to.
       let size = same_ok (sym c.in-Ok.is ∙ size_told st c.args.slot here c.size.result c.size.ensures.value) in
-      absurd (some_none c.permuted-at.result _ (c.permuted-at.ensures mix es st here (subst (λ n. c.loop-i.i < n) size c.loop-i-test.true)) c.in-default-permuted-at.is);
+      absurd (some_none c.permuted_at.result _ (c.permuted_at.ensures mix es st here (subst (λ n. c.loop-i.i < n) size c.loop-i-test.true)) c.in_default-permuted_at.is);
   len = c.loop-i.invariant.0;
   fits = c.loop-i.invariant.1;
 }
@@ -56,14 +56,14 @@ returns-in-Err g c = record {
       let less = subst (λ n. c.loop-i.i < n) size c.loop-i-test.true in
       absurd (not_both c.add.result tt c.in-Err.field-0
       (turn_ok g.met.A.Table.well st (some_slot g.B.Table.group g.met.B.Table.grouped) (lawful_mixes mix law c.args.shape.k st.widths) c.args.shape.below hold c.args.slot c.loop-i.i here less
-      (c.loop-i.invariant.2 mix es law st here hold to) (sym c.in-Some.is ∙ c.permuted-at.ensures mix es st here less) c.place-of-place.ensures.slot c.place-of-place.ensures.quotient
+      (c.loop-i.invariant.2 mix es law st here hold to) (sym c.in-Some.is ∙ c.permuted_at.ensures mix es st here less) c.place_of-place.ensures.slot c.place_of-place.ensures.quotient
       c.add.result c.add.ensures.value) c.in-Err.is);
   after = λ mix es law st here hold to.
       let size = same_ok (sym c.in-Ok.is ∙ size_told st c.args.slot here c.size.result c.size.ensures.value) in
       let less = subst (λ n. c.loop-i.i < n) size c.loop-i-test.true in
       absurd (not_both c.add.result tt c.in-Err.field-0
       (turn_ok g.met.A.Table.well st (some_slot g.B.Table.group g.met.B.Table.grouped) (lawful_mixes mix law c.args.shape.k st.widths) c.args.shape.below hold c.args.slot c.loop-i.i here less
-      (c.loop-i.invariant.2 mix es law st here hold to) (sym c.in-Some.is ∙ c.permuted-at.ensures mix es st here less) c.place-of-place.ensures.slot c.place-of-place.ensures.quotient
+      (c.loop-i.invariant.2 mix es law st here hold to) (sym c.in-Some.is ∙ c.permuted_at.ensures mix es st here less) c.place_of-place.ensures.slot c.place_of-place.ensures.quotient
       c.add.result c.add.ensures.value) c.in-Err.is);
   len = c.add.ensures.len ∙ c.loop-i.invariant.0;
   fits = c.add.ensures.fits ∙ c.loop-i.invariant.1;

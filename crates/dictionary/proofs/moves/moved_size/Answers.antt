@@ -12,16 +12,16 @@ use Rattle.dictionary.proofs.Walked.{same_ok, size_told, some_none}
 use Rattle.dictionary.proofs.moves.moved_size.Goals as goal
 use Rattle.dictionary.proofs.moves.moved_size.Goals.{else-place-slot, then-place-slot}
 
-pub returns-in-default : goal.returns-in-default
-returns-in-default g c mix es st h =
-    absurd (not_both c.size.result _ c.in-default.field-0 (size_told st (c.args.slot / 2) (half_below c.args.slot c.args.shape.b h) c.size.result c.size.ensures.value) c.in-default.is)
+pub returns-in_default : goal.returns-in_default
+returns-in_default g c mix es st h =
+    absurd (not_both c.size.result _ c.in_default.field-0 (size_told st (c.args.slot / 2) (half_below c.args.slot c.args.shape.b h) c.size.result c.size.ensures.value) c.in_default.is)
 
-pub returns-in-default-permuted-at : goal.returns-in-default-permuted-at
-returns-in-default-permuted-at g c mix es st h =
+pub returns-in_default-permuted_at : goal.returns-in_default-permuted_at
+returns-in_default-permuted_at g c mix es st h =
     let here = half_below c.args.slot c.args.shape.b h in
     let size = same_ok (sym c.in-Ok.is ∙ size_told st (c.args.slot / 2) here c.size.result c.size.ensures.value) in
     let less = subst (λ n. c.loop-i.i < n) size c.loop-i-test.true in
-    absurd (some_none c.permuted-at.result _ (c.permuted-at.ensures mix es st here less) c.in-default-permuted-at.is)
+    absurd (some_none c.permuted_at.result _ (c.permuted_at.ensures mix es st here less) c.in_default-permuted_at.is)
 
 pub loop-i-init : goal.loop-i-init
 loop-i-init g c = (omega arith, λ mix es st h. refl)
@@ -36,7 +36,7 @@ loop-i-preserved g c =
             let size = same_ok (sym c.in-Ok.is ∙ size_told st (c.args.slot / 2) here c.size.result c.size.ensures.value) in
             let less = subst (λ n. c.loop-i.i < n) size c.loop-i-test.true in
             let kept = in_slot (slot_of mix.forth c.args.shape.k c.args.shape.b) (c.args.slot / 2) es in
-            let at = placed_larger mix.forth c.args.shape.k c.args.shape.b (get_or kept c.loop-i.i (0, 0)).0 (first_told c.permuted-at.result c.in-Some.is (c.permuted-at.ensures mix es st here less)) c.place-of-place.ensures.slot c.place-of-place.ensures.quotient in
+            let at = placed_larger mix.forth c.args.shape.k c.args.shape.b (get_or kept c.loop-i.i (0, 0)).0 (first_told c.permuted_at.result c.in-Some.is (c.permuted_at.ensures mix es st here less)) c.place_of-place.ensures.slot c.place_of-place.ensures.quotient in
             counted_more (λ e. eqb (slot_of mix.forth c.args.shape.k (c.args.shape.b + 1) e.0) c.args.slot) kept c.loop-i.i c.loop-i.count c.if-place-slot.count true less (c.loop-i.invariant.1 mix es st h)
             (eq-eqb _ c.args.slot (sym (slot_is at) ∙ w.if-place-slot.true)) w.count-is,
       )
@@ -47,7 +47,7 @@ loop-i-preserved g c =
             let size = same_ok (sym c.in-Ok.is ∙ size_told st (c.args.slot / 2) here c.size.result c.size.ensures.value) in
             let less = subst (λ n. c.loop-i.i < n) size c.loop-i-test.true in
             let kept = in_slot (slot_of mix.forth c.args.shape.k c.args.shape.b) (c.args.slot / 2) es in
-            let at = placed_larger mix.forth c.args.shape.k c.args.shape.b (get_or kept c.loop-i.i (0, 0)).0 (first_told c.permuted-at.result c.in-Some.is (c.permuted-at.ensures mix es st here less)) c.place-of-place.ensures.slot c.place-of-place.ensures.quotient in
+            let at = placed_larger mix.forth c.args.shape.k c.args.shape.b (get_or kept c.loop-i.i (0, 0)).0 (first_told c.permuted_at.result c.in-Some.is (c.permuted_at.ensures mix es st here less)) c.place_of-place.ensures.slot c.place_of-place.ensures.quotient in
             counted_more (λ e. eqb (slot_of mix.forth c.args.shape.k (c.args.shape.b + 1) e.0) c.args.slot) kept c.loop-i.i c.loop-i.count c.if-place-slot.count false less (c.loop-i.invariant.1 mix es st h)
             (ne_eqb _ c.args.slot (λ same. w.if-place-slot.false (slot_is at ∙ same))) (let z : c.loop-i.count ≡ c.loop-i.count + 0 = omega arith in w.count-is ∙ z),
       )

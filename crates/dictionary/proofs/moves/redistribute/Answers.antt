@@ -15,12 +15,12 @@ returns-then-not-fits g c = record {
   fits = (refl, refl);
 }
 
-pub returns-then-not-all-hold : goal.returns-then-not-all-hold
-returns-then-not-all-hold g c = record {
+pub returns-then-not-all_hold : goal.returns-then-not-all_hold
+returns-then-not-all_hold g c = record {
   value = λ mix es law st sound.
       let fit = sym c.fits.ensures.value ∙ c.if-not-fits.false in
       sym (ap (λ t. moved t (groups_hold (slot_of mix.forth c.args.shape.k (c.args.shape.b + 1)) g.B.Table.group g.B.Table.limit es)) fit
-      ∙ ap moved_room (sym (c.all-hold.ensures mix es law st fit) ∙ c.if-not-all-hold.true));
+      ∙ ap moved_room (sym (c.all_hold.ensures mix es law st fit) ∙ c.if-not-all_hold.true));
   after = λ mix es law st sound ok. absurd (not_both _ tt _ ok refl);
   cleared = λ ok. absurd (not_both _ tt _ ok refl);
   kept = λ mix es law st sound e is. (refl, refl);
@@ -32,13 +32,13 @@ pub returns-in-Err : goal.returns-in-Err
 returns-in-Err g c = record {
   value = λ mix es law st sound.
       let fit = sym c.fits.ensures.value ∙ c.if-not-fits.false in
-      let hold = sym (c.all-hold.ensures mix es law st fit) ∙ c.if-not-all-hold.false in
+      let hold = sym (c.all_hold.ensures mix es law st fit) ∙ c.if-not-all_hold.false in
       absurd (not_both c.fill.result tt c.in-Err.e (c.fill.ensures.value mix es law st sound fit hold) c.in-Err.is);
   after = λ mix es law st sound ok. absurd (not_both _ tt _ ok refl);
   cleared = λ ok. absurd (not_both _ tt _ ok refl);
   kept = λ mix es law st sound e is.
       let fit = sym c.fits.ensures.value ∙ c.if-not-fits.false in
-      let hold = sym (c.all-hold.ensures mix es law st fit) ∙ c.if-not-all-hold.false in
+      let hold = sym (c.all_hold.ensures mix es law st fit) ∙ c.if-not-all_hold.false in
       absurd (not_both c.fill.result tt c.in-Err.e (c.fill.ensures.value mix es law st sound fit hold) c.in-Err.is);
   len = (refl, c.fill.ensures.len);
   fits = (refl, c.fill.ensures.fits);
@@ -49,10 +49,10 @@ returns g c = record {
   value = λ mix es law st sound.
       let fit = sym c.fits.ensures.value ∙ c.if-not-fits.false in
       sym (ap (λ t. moved t (groups_hold (slot_of mix.forth c.args.shape.k (c.args.shape.b + 1)) g.B.Table.group g.B.Table.limit es)) fit
-      ∙ ap moved_room (sym (c.all-hold.ensures mix es law st fit) ∙ c.if-not-all-hold.false));
+      ∙ ap moved_room (sym (c.all_hold.ensures mix es law st fit) ∙ c.if-not-all_hold.false));
   after = λ mix es law st sound ok.
       let fit = sym c.fits.ensures.value ∙ c.if-not-fits.false in
-      let hold = sym (c.all-hold.ensures mix es law st fit) ∙ c.if-not-all-hold.false in
+      let hold = sym (c.all_hold.ensures mix es law st fit) ∙ c.if-not-all_hold.false in
       c.fill.ensures.after mix es law st sound fit hold;
   cleared = λ ok. search rules;
   kept = λ mix es law st sound e is. absurd (not_both _ tt e refl is);

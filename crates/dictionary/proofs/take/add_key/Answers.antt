@@ -9,10 +9,10 @@ returns g c =
     let narrow : c.args.shape.b ≤ c.args.shape.k = omega (arith, c.args.shape.below) in
     record {
       value = λ l st inside small free.
-          added_ok (grouped law) (mixes law c.args.permutation.now c.args.shape.k st.widths) st narrow c.args.w (record { mixed = c.forth.ensures; slot = c.place-of-place.ensures.slot; quotient = c.place-of-place.ensures.quotient }) inside small free
+          added_ok (grouped law) (mixes law c.args.permutation.now c.args.shape.k st.widths) st narrow c.args.w (record { mixed = c.forth.ensures; slot = c.place_of-place.ensures.slot; quotient = c.place_of-place.ensures.quotient }) inside small free
           c.add.result c.add.ensures.value;
       after = λ l st inside small free.
-          added_stores (grouped law) (mixes law c.args.permutation.now c.args.shape.k st.widths) st narrow c.args.w (record { mixed = c.forth.ensures; slot = c.place-of-place.ensures.slot; quotient = c.place-of-place.ensures.quotient }) inside small free
+          added_stores (grouped law) (mixes law c.args.permutation.now c.args.shape.k st.widths) st narrow c.args.w (record { mixed = c.forth.ensures; slot = c.place_of-place.ensures.slot; quotient = c.place_of-place.ensures.quotient }) inside small free
           c.add.new.self c.add.ensures.sound c.add.ensures.after;
       len = c.add.ensures.len;
       fits = c.add.ensures.fits;

@@ -8,17 +8,17 @@ use Rattle.dictionary.proofs.take.earlier.Goals.{else-place-size, then-place-siz
 pub loop-j-preserved : goal.loop-j-preserved
 loop-j-preserved g c =
     let slot : ℕ → ℕ = slot_of (g.P.Permutation.forth c.args.permutation.now) c.args.shape.k c.args.shape.b in
-    let is : c.place-of-place.result.slot ≡ slot (c.args.m + c.loop-j.j) = c.place-of-place.ensures.slot ∙ ap (λ x. x / 2 ^ (c.args.shape.k - c.args.shape.b)) c.forth.ensures in
+    let is : c.place_of-place.result.slot ≡ slot (c.args.m + c.loop-j.j) = c.place_of-place.ensures.slot ∙ ap (λ x. x / 2 ^ (c.args.shape.k - c.args.shape.b)) c.forth.ensures in
     elim c.if-place-size.branch [
       | then-place-size w ↦ (
         omega (arith, w.count-is, c.loop-j.invariant.0),
         λ x. earlier_more (λ e. eqb (slot e.0 / c.args.size) (c.args.slot / c.args.size)) c.args.m x c.loop-j.j c.loop-j.count c.if-place-size.count true (c.loop-j.invariant.1 x)
-            (group_yes c.args.size c.args.slot c.place-of-place.result.slot (slot (c.args.m + c.loop-j.j)) is w.if-place-size.true) w.count-is,
+            (group_yes c.args.size c.args.slot c.place_of-place.result.slot (slot (c.args.m + c.loop-j.j)) is w.if-place-size.true) w.count-is,
       )
       | else-place-size w ↦ (
         omega (arith, w.count-is, c.loop-j.invariant.0),
         λ x. earlier_more (λ e. eqb (slot e.0 / c.args.size) (c.args.slot / c.args.size)) c.args.m x c.loop-j.j c.loop-j.count c.if-place-size.count false (c.loop-j.invariant.1 x)
-            (group_no c.args.size c.args.slot c.place-of-place.result.slot (slot (c.args.m + c.loop-j.j)) is w.if-place-size.false)
+            (group_no c.args.size c.args.slot c.place_of-place.result.slot (slot (c.args.m + c.loop-j.j)) is w.if-place-size.false)
             (let z : c.loop-j.count ≡ c.loop-j.count + 0 = omega arith in w.count-is ∙ z),
       )
     ]

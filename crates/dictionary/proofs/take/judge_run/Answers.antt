@@ -9,7 +9,7 @@ loop-i-init g c es st there j h = absurd (omega arith)
 pub loop-i-preserved : goal.loop-i-preserved
 loop-i-preserved g c es st there =
     let at = there c.loop-i.i c.loop-i-test.true in
-    below_more _ _ (c.loop-i.invariant es st there) (sym (c.judge.ensures es st at.0 at.1) ∙ c.in-default.is)
+    below_more _ _ (c.loop-i.invariant es st there) (sym (c.judge.ensures es st at.0 at.1) ∙ c.in_default.is)
 
 pub returns-in-Some : goal.returns-in-Some
 returns-in-Some g c es st there =

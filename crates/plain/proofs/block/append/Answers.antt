@@ -10,11 +10,11 @@ returns-in-Err c =
 pub push-requires : goal.push-requires
 push-requires c = record {
   long = stored_length c.args.block.now c.requires.stored;
-  few = room_left c.args.block.now c.requires.stored c.args.quotient c.args.value c.weigh.result c.weigh.ensures.value tt c.in-default.is;
+  few = room_left c.args.block.now c.requires.stored c.args.quotient c.args.value c.weigh.result c.weigh.ensures.value tt c.in_default.is;
   fits = c.requires.fits;
 }
 
 pub returns : goal.returns
 returns c =
-    let a = push_case c.args.block.now c.requires.stored c.args.quotient c.args.value c.weigh.result c.weigh.ensures.value tt c.in-default.is c.push.new.block c.push.ensures.after in
+    let a = push_case c.args.block.now c.requires.stored c.args.quotient c.args.value c.weigh.result c.weigh.ensures.value tt c.in_default.is c.push.new.block c.push.ensures.after in
     record { after = a.after; value = a.value }

@@ -10,11 +10,11 @@ held-requires c = record {
   few = omega (arith, stored_count c.args.block.now c.requires, c.requires.few);
 }
 
-pub returns-in-default : goal.returns-in-default
-returns-in-default c = record { value = ap answer_of (sym (no_place c.args.block.now c.requires c.args.quotient c.held.result.now c.held.ensures.value c.in-default.ensures.value)) }
+pub returns-in_default : goal.returns-in_default
+returns-in_default c = record { value = ap answer_of (sym (no_place c.args.block.now c.requires c.args.quotient c.held.result.now c.held.ensures.value c.in_default.ensures.value)) }
 
-pub overflow-add-result : goal.overflow-add-result
-overflow-add-result c =
+pub overflow_add-result : goal.overflow_add-result
+overflow_add-result c =
     omega (
       arith,
       stored_count c.args.block.now c.requires,
@@ -22,8 +22,8 @@ overflow-add-result c =
       place_below c.args.block.now c.requires c.args.quotient c.held.result.now c.held.ensures.value c.in-Some.i c.in-Some.ensures.value,
     )
 
-pub offset-bounds-block-i : goal.offset-bounds-block-i
-offset-bounds-block-i c =
+pub offset_bounds-block-i : goal.offset_bounds-block-i
+offset_bounds-block-i c =
     omega (
       arith,
       stored_count c.args.block.now c.requires,

@@ -16,5 +16,5 @@ pub returns : goal.returns
 returns c = record {
   value = c.decide.ensures.value
       ∙ weigh_case c.args.block.now c.requires c.args.quotient c.args.earlier c.held.result.now c.held.ensures.value c.place.result c.place.ensures.value
-      c.saturating-add.result c.saturating-add.ensures;
+      c.saturating_add.result c.saturating_add.ensures;
 }

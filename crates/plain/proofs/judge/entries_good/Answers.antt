@@ -9,7 +9,7 @@ loop-i-preserved c =
     let a = one_shl (c.args.shape.k - c.args.shape.b) 64 (omega arith) in
     let b = one_shl c.args.shape.v 64 (omega arith) in
     good_more c.args.entries.now (c.args.shape.k - c.args.shape.b) c.args.shape.v c.loop-i.i c.loop-i-test.true c.loop-i.invariant
-    (omega arith) (omega arith) c.in-default.ensures.value
+    (omega arith) (omega arith) c.in_default.ensures.value
 
 pub returns-then-quotient-shape : goal.returns-then-quotient-shape
 returns-then-quotient-shape c =

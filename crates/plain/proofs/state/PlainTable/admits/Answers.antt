@@ -3,8 +3,8 @@ use Rattle.std.proofs.lemmas.Bool.{and_parts}
 use Rattle.plain.specs.Standing.{inside_table, stored_table, admitted_table}
 use Rattle.plain.proofs.state.PlainTable.admits.Goals as goal
 
-pub slice-bounds-weigh-end : goal.slice-bounds-weigh-end
-slice-bounds-weigh-end c =
+pub slice_bounds-weigh-end : goal.slice_bounds-weigh-end
+slice_bounds-weigh-end c =
     let ok = sym c.allows.ensures.value ∙ c.if-not-allows.false in
     let h = inside_table c.args.self.now c.in-Some.shape c.in-Some.is c.args.slot (and_parts _ _ (and_parts _ _ ok).0).0 in
     search rules

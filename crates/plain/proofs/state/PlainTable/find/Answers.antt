@@ -3,8 +3,8 @@ use Rattle.std.proofs.lemmas.Bool.{and_parts}
 use Rattle.plain.specs.Standing.{inside_table, stored_table, found_table}
 use Rattle.plain.proofs.state.PlainTable.find.Goals as goal
 
-pub slice-bounds-find-end : goal.slice-bounds-find-end
-slice-bounds-find-end c =
+pub slice_bounds-find-end : goal.slice_bounds-find-end
+slice_bounds-find-end c =
     let ok = sym c.has.ensures.value ∙ c.if-not-has.false in
     let h = inside_table c.args.self.now c.in-Some.shape c.in-Some.is c.args.slot (and_parts _ _ ok).0 in
     search rules

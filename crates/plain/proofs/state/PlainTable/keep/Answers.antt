@@ -8,22 +8,22 @@ use Rattle.plain.specs.Standing.{keep_table, kept_table, unfit_table}
 use Rattle.table.proofs.Setting.{len_items}
 use Rattle.plain.proofs.state.PlainTable.keep.Goals as goal
 
-pub returns-in-default : goal.returns-in-default
-returns-in-default c =
-    let off = unfit_table (vec_items c.args.words) c.args.k c.args.v c.args.b c.len.result (c.len.ensures ∙ len_items c.args.words) c.in-default.ensures.value in
-    record { after = λ slots f e. absurd (off (record { slots = slots; well = f; made = e })); other = λ q. c.set-up.ensures.after; len = c.set-up.ensures.len }
+pub returns-in_default : goal.returns-in_default
+returns-in_default c =
+    let off = unfit_table (vec_items c.args.words) c.args.k c.args.v c.args.b c.len.result (c.len.ensures ∙ len_items c.args.words) c.in_default.ensures.value in
+    record { after = λ slots f e. absurd (off (record { slots = slots; well = f; made = e })); other = λ q. c.set_up.ensures.after; len = c.set_up.ensures.len }
 
 pub scan-requires : goal.scan-requires
 scan-requires c =
     fit_here (length c.deref.result.now) c.args.k c.args.v c.args.b c.in-Some.shape
     (kept_table c.deref.result.now c.args.k c.args.v c.args.b c.in-Some.shape c.len.result (c.len.ensures ∙ sym c.deref.ensures.len) c.in-Some.ensures.value)
 
-pub invariant-of-result : goal.invariant-of-result
-invariant-of-result c =
+pub invariant_of-result : goal.invariant_of-result
+invariant_of-result c =
     let ws = vec_items c.args.words in let s = c.in-Some.shape in
     let h : Holds plain ws s.k s.v s.b = subst (λ t. Holds plain t s.k s.v s.b) c.deref.ensures.value c.in-Ok.ensures.value in
     let st = stands_found plain plain_laws (length ws) ws s s.k s.v s.b refl refl refl h.slots h.well h.made in
-    (∣ st.well ∣₁, (st.exact, tt))
+    record { well = ∣ st.well ∣₁; exact = st.exact }
 
 pub returns : goal.returns
 returns c =
