@@ -121,4 +121,4 @@ same_words t u n m = u.exact ∙ ap₂ (words_of packed_table) n m ∙ sym t.exa
 
 -- a formed table's meaning is well formed
 pub well_formed : (t : PackedTable) (k v b : ℕ) (slots : List (List (ℕ × ℕ))) → means t ≡ formed k v b slots → WellFormed 16 48 (fits (size t)) k v b slots
-well_formed t k v b slots e = subst (Well packed_table (size t)) e (bare packed_table (size t) (means t) t.well)
+well_formed t k v b ss e = subst (Well packed_table (size t)) e (bare packed_table (size t) (means t) t.well)

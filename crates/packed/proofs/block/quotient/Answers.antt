@@ -2,8 +2,8 @@ use Rattle.std.proofs.Common.{refl, arith}
 use Rattle.packed.specs.Views.{place_few, quotient_read}
 use Rattle.packed.proofs.block.quotient.Goals as goal
 
-pub overflow-add-before : goal.overflow-add-before
-overflow-add-before c =
+pub overflow_add-before : goal.overflow_add-before
+overflow_add-before c =
     let s = c.args.shape in
     omega (arith, c.before-2.ensures.value, place_few s.k s.v s.b c.args.block.now c.requires.marked c.args.slot c.requires.slot c.args.i c.requires.place)
 

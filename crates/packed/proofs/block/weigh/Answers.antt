@@ -3,5 +3,5 @@ use Rattle.table.specs.Meaning.{weigh_held}
 use Rattle.table.proofs.Slots.{first_value}
 use Rattle.packed.proofs.block.weigh.Goals as goal
 
-pub returns-in-default : goal.returns-in-default
-returns-in-default c = record { value = ap (weigh_held 48 _) (sym (first_value _ c.args.quotient c.in-default.field-0 c.in-default.ensures.value)) }
+pub returns-in_default : goal.returns-in_default
+returns-in_default c = record { value = ap (weigh_held 48 _) (sym (first_value _ c.args.quotient c.in_default.field-0 c.in_default.ensures.value)) }

@@ -19,8 +19,8 @@ bounds-block-0 c =
     let s = c.args.shape in
     omega (arith, (marked_given s.k s.v s.b c.args.block.now c.requires.given).long)
 
-pub open-gap-requires : goal.open-gap-requires
-open-gap-requires c =
+pub open_gap-requires : goal.open_gap-requires
+open_gap-requires c =
     let s = c.args.shape in
     (marked_given s.k s.v s.b c.args.block.now c.requires.given).long
 
@@ -33,6 +33,6 @@ pub returns : goal.returns
 returns c =
     let s = c.args.shape in
     let a = put_case s.k s.v s.b c.args.block.now c.requires.given c.args.slot c.requires.slot c.args.quotient c.args.value c.requires.fits.0 c.requires.fits.1
-    c.weigh.result c.weigh.ensures.value tt c.in-default.is c.load.result c.before-2.result c.size.result c.load.ensures.value c.before-2.ensures.value c.size.ensures.value
-    c.open-gap.new.block c.open-gap.ensures.after c.add.result c.add.ensures in
+    c.weigh.result c.weigh.ensures.value tt c.in_default.is c.load.result c.before-2.result c.size.result c.load.ensures.value c.before-2.ensures.value c.size.ensures.value
+    c.open_gap.new.block c.open_gap.ensures.after c.add.result c.add.ensures in
     record { after = a.after; value = a.value }

@@ -13,14 +13,14 @@ bounds-block-0 c =
     let s = c.args.shape in
     omega (arith, (marked_given s.k s.v s.b c.args.block.now c.requires.given).long)
 
-pub overflow-add-place : goal.overflow-add-place
-overflow-add-place c =
+pub overflow_add-place : goal.overflow_add-place
+overflow_add-place c =
     let s = c.args.shape in
     let m = marked_given s.k s.v s.b c.args.block.now c.requires.given in
     omega (arith, c.before-2.ensures.value, place_few s.k s.v s.b c.args.block.now m c.args.slot c.requires.slot c.args.i c.requires.place)
 
-pub close-gap-requires : goal.close-gap-requires
-close-gap-requires c =
+pub close_gap-requires : goal.close_gap-requires
+close_gap-requires c =
     let s = c.args.shape in
     (marked_given s.k s.v s.b c.args.block.now c.requires.given).long
 
@@ -34,6 +34,6 @@ returns c =
     let s = c.args.shape in
     record {
       after = out_block s.k s.v s.b c.args.block.now c.requires.given c.args.slot c.requires.slot c.args.i c.requires.place c.load.result c.before-2.result c.load.ensures.value c.before-2.ensures.value
-          c.close-gap.new.block c.close-gap.ensures.after c.remove.result c.remove.ensures;
+          c.close_gap.new.block c.close_gap.ensures.after c.remove.result c.remove.ensures;
       value = c.value-value.ensures.value;
     }

@@ -7,9 +7,9 @@ use Rattle.packed.specs.Laws.{packed_laws}
 use Rattle.table.proofs.Setting.{shape_fits}
 use Rattle.packed.proofs.check.check.Goals as goal
 
-pub returns-in-default : goal.returns-in-default
-returns-in-default c =
-    let a = wrong_fit packed_table packed_laws c.args.words.now c.args.k c.args.v c.args.b (unshaped _ c.args.k c.args.v c.args.b c.in-default.ensures.value) in
+pub returns-in_default : goal.returns-in_default
+returns-in_default c =
+    let a = wrong_fit packed_table packed_laws c.args.words.now c.args.k c.args.v c.args.b (unshaped _ c.args.k c.args.v c.args.b c.in_default.ensures.value) in
     record { value = a.value; passes = a.passes }
 
 pub scan-requires : goal.scan-requires

@@ -11,28 +11,28 @@ blocks-blocks-requires c =
     let f = fitting (length c.args.words.now) s.k s.v s.b c.requires in
     record { low = f.one; high = f.low }
 
-pub slice-bounds-is-given-end : goal.slice-bounds-is-given-end
-slice-bounds-is-given-end c =
+pub slice_bounds-is_given-end : goal.slice_bounds-is_given-end
+slice_bounds-is_given-end c =
     let s = c.args.shape in
     omega (arith, block_inside c.args.words.now s.k s.v s.b c.requires c.blocks-blocks.result c.width-width.result c.blocks-blocks.ensures.value c.width-width.ensures.value c.loop-g.g (omega arith))
 
-pub slice-bounds-all-zero-count : goal.slice-bounds-all-zero-count
-slice-bounds-all-zero-count c =
+pub slice_bounds-all_zero-count : goal.slice_bounds-all_zero-count
+slice_bounds-all_zero-count c =
     let s = c.args.shape in
     omega (arith, blocks_inside c.args.words.now s.k s.v s.b c.requires c.blocks-blocks.result c.width-width.result c.blocks-blocks.ensures.value c.width-width.ensures.value)
 
-pub slice-bounds-all-zero-start : goal.slice-bounds-all-zero-start
-slice-bounds-all-zero-start c =
+pub slice_bounds-all_zero-start : goal.slice_bounds-all_zero-start
+slice_bounds-all_zero-start c =
     let s = c.args.shape in
     omega (arith, blocks_inside c.args.words.now s.k s.v s.b c.requires c.blocks-blocks.result c.width-width.result c.blocks-blocks.ensures.value c.width-width.ensures.value)
 
-pub returns-then-not-is-given : goal.returns-then-not-is-given
-returns-then-not-is-given c =
+pub returns-then-not-is_given : goal.returns-then-not-is_given
+returns-then-not-is_given c =
     let g = c.loop-g.g in let ws = c.args.words.now in let s = c.args.shape in
     let n = c.blocks-blocks.ensures.value in
     let a = wrong_here packed_table packed_laws ws s.k s.v s.b c.requires g (omega (arith, n)) c.loop-g.invariant
     _ (block_at ws s.k s.v s.b c.requires c.blocks-blocks.result c.width-width.result n c.width-width.ensures.value g (omega arith))
-    c.is-given.result c.if-not-is-given.true c.is-given.ensures.value in
+    c.is_given.result c.if-not-is_given.true c.is_given.ensures.value in
     record { value = a.value; passes = a.passes }
 
 pub loop-g-preserved : goal.loop-g-preserved
@@ -41,14 +41,14 @@ loop-g-preserved c =
     let n = c.blocks-blocks.ensures.value in
     given_more packed_table packed_laws ws s.k s.v s.b g c.loop-g.invariant
     _ (block_at ws s.k s.v s.b c.requires c.blocks-blocks.result c.width-width.result n c.width-width.ensures.value g (omega arith))
-    c.is-given.result c.if-not-is-given.false c.is-given.ensures.value
+    c.is_given.result c.if-not-is_given.false c.is_given.ensures.value
 
-pub returns-then-not-all-zero : goal.returns-then-not-all-zero
-returns-then-not-all-zero c =
+pub returns-then-not-all_zero : goal.returns-then-not-all_zero
+returns-then-not-all_zero c =
     let ws = c.args.words.now in let s = c.args.shape in
     let a = wrong_tail packed_table packed_laws ws s.k s.v s.b c.requires c.blocks-blocks.result c.blocks-blocks.ensures.value (λ i l. c.loop-g.invariant i (omega arith))
     _ (rest_is ws s.k s.v s.b c.requires c.blocks-blocks.result c.width-width.result c.blocks-blocks.ensures.value c.width-width.ensures.value)
-    c.all-zero.result c.all-zero.ensures.value c.if-not-all-zero.true in
+    c.all_zero.result c.all_zero.ensures.value c.if-not-all_zero.true in
     record { value = a.value; passes = a.passes }
 
 pub returns : goal.returns
@@ -56,5 +56,5 @@ returns c =
     let ws = c.args.words.now in let s = c.args.shape in
     let a = all_right packed_table packed_laws ws s.k s.v s.b c.requires c.blocks-blocks.result c.blocks-blocks.ensures.value (λ i l. c.loop-g.invariant i (omega arith))
     _ (rest_is ws s.k s.v s.b c.requires c.blocks-blocks.result c.width-width.result c.blocks-blocks.ensures.value c.width-width.ensures.value)
-    c.all-zero.result c.all-zero.ensures.value c.if-not-all-zero.false in
+    c.all_zero.result c.all_zero.ensures.value c.if-not-all_zero.false in
     record { value = a.value; passes = a.passes }

@@ -10,10 +10,10 @@ returns-then-b-lt-NARROWEST c =
     let n = c.args.words in let k = c.args.k in let v = c.args.v in let b = c.args.b in
     record { value = ap (λ t. shape_where t k v b) (sym (⊎_elim (too_low n k v b) (λ p. too_high n k v b p.1) c.then-b-lt-NARROWEST.either)) }
 
-pub returns-in-default : goal.returns-in-default
-returns-in-default c =
+pub returns-in_default : goal.returns-in_default
+returns-in_default c =
     let n = c.args.words in let k = c.args.k in let v = c.args.v in let b = c.args.b in
-    record { value = ap (λ t. shape_where t k v b) (sym (unbounded n k v b (omega arith) (omega arith) (unshaped _ k v b c.in-default.ensures.value))) }
+    record { value = ap (λ t. shape_where t k v b) (sym (unbounded n k v b (omega arith) (omega arith) (unshaped _ k v b c.in_default.ensures.value))) }
 
 pub returns-then-blocks-width : goal.returns-then-blocks-width
 returns-then-blocks-width c =

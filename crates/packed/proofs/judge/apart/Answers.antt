@@ -5,11 +5,11 @@ use Rattle.packed.proofs.judge.apart.Goals as goal
 pub quotient-quotient-requires : goal.quotient-quotient-requires
 quotient-quotient-requires c = record { marked = c.requires.marked; slot = c.requires.slot; place = omega (arith, c.size-size.ensures.value) }
 
-pub returns-in-default : goal.returns-in-default
-returns-in-default c =
+pub returns-in_default : goal.returns-in_default
+returns-in_default c =
     let s = c.args.shape in
     absurd (nowhere s.k s.v s.b c.args.block.now c.requires.marked c.args.slot c.requires.slot c.loop-i.i c.quotient-quotient.result (omega (arith, c.size-size.ensures.value)) c.quotient-quotient.ensures.value
-    c.in-default.ensures.value)
+    c.in_default.ensures.value)
 
 pub returns-then-first-i : goal.returns-then-first-i
 returns-then-first-i c =

@@ -6,13 +6,13 @@ use Rattle.packed.specs.Stored.{good_given, marked_given}
 use Rattle.packed.proofs.Judged.{clean_given, given_from}
 use Rattle.packed.proofs.judge.is_given.Goals as goal
 
-pub returns-then-not-is-marks : goal.returns-then-not-is-marks
-returns-then-not-is-marks c =
+pub returns-then-not-is_marks : goal.returns-then-not-is_marks
+returns-then-not-is_marks c =
     let s = c.args.shape in
-    record { value = refuted _ (λ g. when_false _ _ c.if-not-is-marks.true c.is-marks.ensures (marked_given s.k s.v s.b c.args.block.now g).marked) }
+    record { value = refuted _ (λ g. when_false _ _ c.if-not-is_marks.true c.is_marks.ensures (marked_given s.k s.v s.b c.args.block.now g).marked) }
 
 pub clean-requires : goal.clean-requires
-clean-requires c = record { long = c.requires; marked = when_true _ _ c.if-not-is-marks.false c.is-marks.ensures }
+clean-requires c = record { long = c.requires; marked = when_true _ _ c.if-not-is_marks.false c.is_marks.ensures }
 
 pub returns-then-not-clean : goal.returns-then-not-clean
 returns-then-not-clean c =
@@ -24,19 +24,19 @@ returns-then-not-clean c =
           not_from_Decides c.clean.result c.clean.ensures.value c.if-not-clean.true (cl.quotients, cl.values));
     }
 
-pub all-apart-requires : goal.all-apart-requires
-all-apart-requires c = record { long = c.requires; marked = when_true _ _ c.if-not-is-marks.false c.is-marks.ensures }
+pub all_apart-requires : goal.all_apart-requires
+all_apart-requires c = record { long = c.requires; marked = when_true _ _ c.if-not-is_marks.false c.is_marks.ensures }
 
 pub returns : goal.returns
 returns c =
     let s = c.args.shape in
     let block = c.args.block.now in
-    let m : MarkedBlock s.k s.v s.b block = record { long = c.requires; marked = when_true _ _ c.if-not-is-marks.false c.is-marks.ensures } in
+    let m : MarkedBlock s.k s.v s.b block = record { long = c.requires; marked = when_true _ _ c.if-not-is_marks.false c.is_marks.ensures } in
     let fits : (i : ℕ) → get_or block i 0 < 2 ^ 64 = λ i. let f : get_or c.args.block.now i 0 < 2 ^ 64 = search rules in f in
     let p = c.clean.ensures.value.0 c.if-not-clean.false in
     record {
       value = (
-        (λ e. given_from s.k s.v s.b block m fits (record { quotients = p.0; values = p.1 }) (c.all-apart.ensures.value.0 e)),
-        (λ g. c.all-apart.ensures.value.1 (λ j h. (good_given s.k s.v s.b block g).good j h)),
+        (λ e. given_from s.k s.v s.b block m fits (record { quotients = p.0; values = p.1 }) (c.all_apart.ensures.value.0 e)),
+        (λ g. c.all_apart.ensures.value.1 (λ j h. (good_given s.k s.v s.b block g).good j h)),
       );
     }

@@ -5,16 +5,16 @@ use Rattle.packed.specs.Layout.{width}
 use Rattle.packed.specs.Standing.{inside_table, given_table, add_table}
 use Rattle.packed.proofs.state.PackedTable.add.Goals as goal
 
-pub offset-bounds-deref-mut-start : goal.offset-bounds-deref-mut-start
-offset-bounds-deref-mut-start c =
+pub offset_bounds-deref_mut-start : goal.offset_bounds-deref_mut-start
+offset_bounds-deref_mut-start c =
     let ok = sym c.allows.ensures.value ∙ c.if-not-allows.false in
     let h = inside_table c.args.self.now c.in-Some.shape c.in-Some.is c.args.slot (and_parts _ _ (and_parts _ _ ok).0).0 in
     let w = c.width-width.ensures.value in
     let e : c.args.slot / 16 * c.width-width.result ≡ c.args.slot / 16 * width 1 c.in-Some.shape.k c.in-Some.shape.v c.in-Some.shape.b = ap (λ t. c.args.slot / 16 * t) w in
     search rules
 
-pub slice-bounds-append-end : goal.slice-bounds-append-end
-slice-bounds-append-end c =
+pub slice_bounds-append-end : goal.slice_bounds-append-end
+slice_bounds-append-end c =
     let ok = sym c.allows.ensures.value ∙ c.if-not-allows.false in
     let h = inside_table c.args.self.now c.in-Some.shape c.in-Some.is c.args.slot (and_parts _ _ (and_parts _ _ ok).0).0 in
     let w = c.width-width.ensures.value in
@@ -25,23 +25,23 @@ pub append-requires : goal.append-requires
 append-requires c =
     let ok = sym c.allows.ensures.value ∙ c.if-not-allows.false in
     record {
-      given = given_table c.args.self.now c.in-Some.shape c.in-Some.is c.args.slot (and_parts _ _ (and_parts _ _ ok).0).0 c.deref-mut.result.now c.deref-mut.ensures.value _ (ap (λ t. c.args.slot / 16 * t) c.width-width.ensures.value) _ (omega (arith, c.width-width.ensures.value));
+      given = given_table c.args.self.now c.in-Some.shape c.in-Some.is c.args.slot (and_parts _ _ (and_parts _ _ ok).0).0 c.deref_mut.result.now c.deref_mut.ensures.value _ (ap (λ t. c.args.slot / 16 * t) c.width-width.ensures.value) _ (omega (arith, c.width-width.ensures.value));
       slot = mod_below c.args.slot 16 (omega arith);
       fits = (ltb-true _ _ (and_parts _ _ (and_parts _ _ ok).0).1, ltb-true _ _ (and_parts _ _ ok).1);
     }
 
-pub invariant-of-self : goal.invariant-of-self
-invariant-of-self c =
+pub invariant_of-self : goal.invariant_of-self
+invariant_of-self c =
     let ok = sym c.allows.ensures.value ∙ c.if-not-allows.false in
-    let len = sym (ap length c.deref-mut.ensures.value) ∙ c.deref-mut.ensures.len in
-    let st = (add_table c.args.self.now c.in-Some.shape c.in-Some.is c.args.slot (and_parts _ _ (and_parts _ _ ok).0).0 c.deref-mut.result.now c.deref-mut.ensures.value _ (ap (λ t. c.args.slot / 16 * t) c.width-width.ensures.value) _ (omega (arith, c.width-width.ensures.value)) len
+    let len = sym (ap length c.deref_mut.ensures.value) ∙ c.deref_mut.ensures.len in
+    let st = (add_table c.args.self.now c.in-Some.shape c.in-Some.is c.args.slot (and_parts _ _ (and_parts _ _ ok).0).0 c.deref_mut.result.now c.deref_mut.ensures.value _ (ap (λ t. c.args.slot / 16 * t) c.width-width.ensures.value) _ (omega (arith, c.width-width.ensures.value)) len
     c.args.quotient c.append.new.block c.args.value ok c.append.result c.append.ensures.after c.append.ensures.value).stands in
-    (∣ st.well ∣₁, (st.exact, tt))
+    record { well = ∣ st.well ∣₁; exact = st.exact }
 
 pub returns : goal.returns
 returns c =
     let ok = sym c.allows.ensures.value ∙ c.if-not-allows.false in
-    let len = sym (ap length c.deref-mut.ensures.value) ∙ c.deref-mut.ensures.len in
-    let step = add_table c.args.self.now c.in-Some.shape c.in-Some.is c.args.slot (and_parts _ _ (and_parts _ _ ok).0).0 c.deref-mut.result.now c.deref-mut.ensures.value _ (ap (λ t. c.args.slot / 16 * t) c.width-width.ensures.value) _ (omega (arith, c.width-width.ensures.value)) len
+    let len = sym (ap length c.deref_mut.ensures.value) ∙ c.deref_mut.ensures.len in
+    let step = add_table c.args.self.now c.in-Some.shape c.in-Some.is c.args.slot (and_parts _ _ (and_parts _ _ ok).0).0 c.deref_mut.result.now c.deref_mut.ensures.value _ (ap (λ t. c.args.slot / 16 * t) c.width-width.ensures.value) _ (omega (arith, c.width-width.ensures.value)) len
     c.args.quotient c.append.new.block c.args.value ok c.append.result c.append.ensures.after c.append.ensures.value in
     record { after = step.stands.means; value = step.value; len = step.stands.long }

@@ -5,18 +5,18 @@ use Rattle.packed.specs.Layout.{packed_table}
 use Rattle.packed.specs.Laws.{packed_laws}
 use Rattle.packed.proofs.state.PackedTable.clear.Goals as goal
 
-pub invariant-of-self : goal.invariant-of-self
-invariant-of-self c =
+pub invariant_of-self : goal.invariant_of-self
+invariant_of-self c =
     let t = c.args.self.now in
-    let same = ap length c.deref-mut.ensures.value in
+    let same = ap length c.deref_mut.ensures.value in
     let st = stands_none packed_table packed_laws (length (vec_items t.words)) c.zero.new.words (c.zero.ensures.after ∙ ap (λ n. replicate n 0) same) in
-    let full = refilled_stands packed_table packed_laws t.words None unformed c.zero.new.words (sym same ∙ c.deref-mut.ensures.len) st in
-    (∣ full.well ∣₁, (full.exact, tt))
+    let full = refilled_stands packed_table packed_laws t.words None unformed c.zero.new.words (sym same ∙ c.deref_mut.ensures.len) st in
+    record { well = ∣ full.well ∣₁; exact = full.exact }
 
 pub returns : goal.returns
 returns c =
     let t = c.args.self.now in
-    let same = ap length c.deref-mut.ensures.value in
+    let same = ap length c.deref_mut.ensures.value in
     let st = stands_none packed_table packed_laws (length (vec_items t.words)) c.zero.new.words (c.zero.ensures.after ∙ ap (λ n. replicate n 0) same) in
-    let full = refilled_stands packed_table packed_laws t.words None unformed c.zero.new.words (sym same ∙ c.deref-mut.ensures.len) st in
+    let full = refilled_stands packed_table packed_laws t.words None unformed c.zero.new.words (sym same ∙ c.deref_mut.ensures.len) st in
     record { after = refl; len = full.long }

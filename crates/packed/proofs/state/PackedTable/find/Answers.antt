@@ -5,16 +5,16 @@ use Rattle.packed.specs.Layout.{width}
 use Rattle.packed.specs.Standing.{inside_table, marked_table, found_table}
 use Rattle.packed.proofs.state.PackedTable.find.Goals as goal
 
-pub offset-bounds-deref-start : goal.offset-bounds-deref-start
-offset-bounds-deref-start c =
+pub offset_bounds-deref-start : goal.offset_bounds-deref-start
+offset_bounds-deref-start c =
     let ok = sym c.has.ensures.value ∙ c.if-not-has.false in
     let h = inside_table c.args.self.now c.in-Some.shape c.in-Some.is c.args.slot (and_parts _ _ ok).0 in
     let w = c.width-width.ensures.value in
     let e : c.args.slot / 16 * c.width-width.result ≡ c.args.slot / 16 * width 1 c.in-Some.shape.k c.in-Some.shape.v c.in-Some.shape.b = ap (λ t. c.args.slot / 16 * t) w in
     search rules
 
-pub slice-bounds-find-end : goal.slice-bounds-find-end
-slice-bounds-find-end c =
+pub slice_bounds-find-end : goal.slice_bounds-find-end
+slice_bounds-find-end c =
     let ok = sym c.has.ensures.value ∙ c.if-not-has.false in
     let h = inside_table c.args.self.now c.in-Some.shape c.in-Some.is c.args.slot (and_parts _ _ ok).0 in
     let w = c.width-width.ensures.value in

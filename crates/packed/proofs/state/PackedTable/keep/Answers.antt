@@ -7,22 +7,22 @@ use Rattle.packed.specs.Layout.{packed_table, fits}
 use Rattle.packed.specs.Laws.{packed_laws}
 use Rattle.packed.proofs.state.PackedTable.keep.Goals as goal
 
-pub returns-in-default : goal.returns-in-default
-returns-in-default c =
-    let off = unfit packed_table packed_laws c.args.k c.args.v c.args.b (vec_items c.args.words) c.len.result (c.len.ensures ∙ len_items c.args.words) c.in-default.ensures.value in
-    record { after = λ slots f e. absurd (off (record { slots = slots; well = f; made = e })); other = λ q. c.set-up.ensures.after; len = c.set-up.ensures.len }
+pub returns-in_default : goal.returns-in_default
+returns-in_default c =
+    let off = unfit packed_table packed_laws c.args.k c.args.v c.args.b (vec_items c.args.words) c.len.result (c.len.ensures ∙ len_items c.args.words) c.in_default.ensures.value in
+    record { after = λ slots f e. absurd (off (record { slots = slots; well = f; made = e })); other = λ q. c.set_up.ensures.after; len = c.set_up.ensures.len }
 
 pub scan-requires : goal.scan-requires
 scan-requires c =
     let ws = c.deref.result.now in let k = c.args.k in let v = c.args.v in let b = c.args.b in
     shape_fits (fits (length ws)) k v b c.in-Some.shape (count_moved fits c.len.result (length ws) k v b (Some c.in-Some.shape) (c.len.ensures ∙ sym c.deref.ensures.len) c.in-Some.ensures.value)
 
-pub invariant-of-result : goal.invariant-of-result
-invariant-of-result c =
+pub invariant_of-result : goal.invariant_of-result
+invariant_of-result c =
     let ws = vec_items c.args.words in let s = c.in-Some.shape in
     let h : Holds packed_table ws s.k s.v s.b = subst (λ t. Holds packed_table t s.k s.v s.b) c.deref.ensures.value c.in-Ok.ensures.value in
     let st = stands_found packed_table packed_laws (length ws) ws s s.k s.v s.b refl refl refl h.slots h.well h.made in
-    (∣ st.well ∣₁, (st.exact, tt))
+    record { well = ∣ st.well ∣₁; exact = st.exact }
 
 pub returns : goal.returns
 returns c =

@@ -6,19 +6,19 @@ use Rattle.packed.specs.Layout.{packed_table}
 use Rattle.packed.specs.Laws.{packed_laws}
 use Rattle.packed.proofs.state.PackedTable.set_up.Goals as goal
 
-pub invariant-of-result : goal.invariant-of-result
-invariant-of-result c =
+pub invariant_of-result : goal.invariant_of-result
+invariant_of-result c =
     let v = c.args.words in
     let ws = c.zero.new.words in
-    let n = length c.deref-mut.result.now in
-    let len : length ws ≡ v.len = ap length c.zero.ensures.after ∙ length-replicate n 0 ∙ c.deref-mut.ensures.len in
+    let n = length c.deref_mut.result.now in
+    let len : length ws ≡ v.len = ap length c.zero.ensures.after ∙ length-replicate n 0 ∙ c.deref_mut.ensures.len in
     let st = stands_none packed_table packed_laws n (vec_items (with_items v ws)) (with_items_is v ws len ∙ c.zero.ensures.after) in
-    (∣ st.well ∣₁, (st.exact, tt))
+    record { well = ∣ st.well ∣₁; exact = st.exact }
 
 pub returns : goal.returns
 returns c =
     let v = c.args.words in
     let ws = c.zero.new.words in
-    let n = length c.deref-mut.result.now in
+    let n = length c.deref_mut.result.now in
     let same : length ws ≡ n = ap length c.zero.ensures.after ∙ length-replicate n 0 in
-    record { after = refl; len = ap length (with_items_is v ws (same ∙ c.deref-mut.ensures.len)) ∙ same ∙ ap length c.deref-mut.ensures.value }
+    record { after = refl; len = ap length (with_items_is v ws (same ∙ c.deref_mut.ensures.len)) ∙ same ∙ ap length c.deref_mut.ensures.value }

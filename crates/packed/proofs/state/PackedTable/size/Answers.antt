@@ -4,17 +4,17 @@ use Rattle.packed.specs.Layout.{width}
 use Rattle.packed.specs.Standing.{inside_table, marked_table, sized_table}
 use Rattle.packed.proofs.state.PackedTable.size.Goals as goal
 
-pub offset-bounds-deref-start : goal.offset-bounds-deref-start
-offset-bounds-deref-start c =
-    let ok = sym c.has-slot.ensures.value ∙ c.if-not-has-slot.false in
+pub offset_bounds-deref-start : goal.offset_bounds-deref-start
+offset_bounds-deref-start c =
+    let ok = sym c.has_slot.ensures.value ∙ c.if-not-has_slot.false in
     let h = inside_table c.args.self.now c.in-Some.shape c.in-Some.is c.args.slot (ok) in
     let w = c.width-width.ensures.value in
     let e : c.args.slot / 16 * c.width-width.result ≡ c.args.slot / 16 * width 1 c.in-Some.shape.k c.in-Some.shape.v c.in-Some.shape.b = ap (λ t. c.args.slot / 16 * t) w in
     search rules
 
-pub slice-bounds-size-end : goal.slice-bounds-size-end
-slice-bounds-size-end c =
-    let ok = sym c.has-slot.ensures.value ∙ c.if-not-has-slot.false in
+pub slice_bounds-size-end : goal.slice_bounds-size-end
+slice_bounds-size-end c =
+    let ok = sym c.has_slot.ensures.value ∙ c.if-not-has_slot.false in
     let h = inside_table c.args.self.now c.in-Some.shape c.in-Some.is c.args.slot (ok) in
     let w = c.width-width.ensures.value in
     let e : c.args.slot / 16 * c.width-width.result ≡ c.args.slot / 16 * width 1 c.in-Some.shape.k c.in-Some.shape.v c.in-Some.shape.b = ap (λ t. c.args.slot / 16 * t) w in
@@ -22,10 +22,10 @@ slice-bounds-size-end c =
 
 pub size-requires : goal.size-requires
 size-requires c =
-    let ok = sym c.has-slot.ensures.value ∙ c.if-not-has-slot.false in
+    let ok = sym c.has_slot.ensures.value ∙ c.if-not-has_slot.false in
     record { marked = marked_table c.args.self.now c.in-Some.shape c.in-Some.is c.args.slot (ok) c.deref.result.now c.deref.ensures.value _ (ap (λ t. c.args.slot / 16 * t) c.width-width.ensures.value) _ (omega (arith, c.width-width.ensures.value)); slot = mod_below c.args.slot 16 (omega arith) }
 
 pub returns : goal.returns
 returns c =
-    let ok = sym c.has-slot.ensures.value ∙ c.if-not-has-slot.false in
+    let ok = sym c.has_slot.ensures.value ∙ c.if-not-has_slot.false in
     record { value = ap Ok c.size.ensures.value ∙ (sized_table c.args.self.now c.in-Some.shape c.in-Some.is c.args.slot (ok) c.deref.result.now c.deref.ensures.value _ (ap (λ t. c.args.slot / 16 * t) c.width-width.ensures.value) _ (omega (arith, c.width-width.ensures.value))) }
