@@ -1,5 +1,5 @@
 -- One night more of a stay.
-use Rattle.std.proofs.Common.{◌≡◌, ℕ, suc, ◌+◌, ◌-◌, ◌<◌, ◌≤◌, true, false, sym, ◌∙◌, arith, rules}
+use Rattle.std.proofs.Common.{◌≡◌, ℕ, suc, ◌+◌, ◌-◌, ◌<◌, ◌≤◌, true, false, arith, rules}
 use Rattle.coding.specs.Nights.{night_exists}
 use Rattle.arrivals.specs.Stays.{existing}
 

@@ -1,8 +1,8 @@
 -- A field put into an area or taken out of it, as the code does it.
-use Rattle.std.proofs.Common.{◌≡◌, ℕ, ◌+◌, ◌-◌, ◌*◌, ◌%◌, ◌^◌, ◌<◌, ◌≤◌, min, max, ◌⊎◌, List, length, get_or, sym, refl, ap, ◌∙◌, subst, ap₂, inl, inr, ⊎_elim, mul-le-mul_right, add-mul, arith, pow_pos}
+use Rattle.std.proofs.Common.{◌≡◌, ℕ, ◌+◌, ◌-◌, ◌*◌, ◌%◌, ◌^◌, ◌<◌, ◌≤◌, min, max, ◌⊎◌, List, length, get_or, sym, ap, ◌∙◌, ap₂, inl, inr, ⊎_elim, mul-le-mul_right, add-mul, arith}
 use native.Mathlib.Nat.{zero-mod}
 use Rattle.std.proofs.lemmas.Bool.{cases_lt}
-use Rattle.bits.specs.Area.{number, words_of, bits, splice, field_inserted, field_removed}
+use Rattle.bits.specs.Area.{number, words_of, splice, field_inserted, field_removed}
 use Rattle.bits.proofs.Numbers.{number_lt, words_number, words_same}
 use Rattle.bits.proofs.Splices.{room}
 use Rattle.bits.proofs.Moves.{Raised, Lowered, raised_put, lowered_put, bits_inserted, bits_removed, inserted_agree, removed_agree}

@@ -1,5 +1,5 @@
 -- Bits of an area, found in its words.
-use Rattle.std.proofs.Common.{◌≡◌, ℕ, zero, suc, ◌+◌, ◌-◌, ◌*◌, ◌/◌, ◌%◌, ◌^◌, ◌<◌, ◌≤◌, List, [], ◌∷◌, length, get_or, drop, sym, refl, ap, ◌∙◌, subst, ap₂, add-zero, mod-eq_of_lt, div-one, arith, shr-shr, shr_lt}
+use Rattle.std.proofs.Common.{◌≡◌, ℕ, ◌+◌, ◌-◌, ◌*◌, ◌/◌, ◌%◌, ◌^◌, ◌<◌, ◌≤◌, List, get_or, drop, sym, ap, ◌∙◌, subst, ap₂, add-zero, mod-eq_of_lt, div-one, arith, shr-shr, shr_lt}
 use native.Mathlib.Nat.{mul-mod_left}
 use lib.Bits.{bit_and, bit_or, and_mask, or_shifted_r}
 use lib.Pow.{shl-shr, mod-pow-add, mod-mod-pow, shr_mod, high, low, ones_split, ones_lt}

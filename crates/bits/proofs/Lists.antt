@@ -1,12 +1,12 @@
 -- The laws of fields as lists.
-use Rattle.std.proofs.Common.{◌≡◌, ℕ, zero, suc, ◌+◌, ◌-◌, ◌*◌, ◌/◌, ◌%◌, ◌^◌, ◌<◌, ◌≤◌, ◌⊎◌, List, [], ◌∷◌, ◌++◌, length, get_or, take, drop, set, sym, refl, ap, ◌∙◌, subst, ap₂, inl, inr, ⊎_elim, lt_of_lt_of_le, le_of_suc-le-suc, not-suc-le-zero, add-zero, mul-le-mul_right, mod-lt, mod-eq_of_lt, suc-mul, add-mul, zero-mul, div-one, arith, pow_pos, pow_mono}
+use Rattle.std.proofs.Common.{◌≡◌, ℕ, zero, suc, ◌+◌, ◌*◌, ◌/◌, ◌%◌, ◌^◌, ◌<◌, ◌≤◌, List, [], ◌∷◌, ◌++◌, length, get_or, take, drop, set, sym, ap, ◌∙◌, subst, ap₂, lt_of_lt_of_le, le_of_suc-le-suc, not-suc-le-zero, add-zero, mul-le-mul_right, mod-lt, mod-eq_of_lt, suc-mul, zero-mul, arith, pow_pos, pow_mono}
 use native.Mathlib.Nat.{div-eq_of_lt, zero-mod}
 use lib.Pow.{split, high, low}
 use Rattle.std.specs.List.{insert, remove}
 use Rattle.std.proofs.lemmas.List.Edits.{length-remove}
-use Rattle.std.proofs.lemmas.List.{length-append, length-take-le, take_all, drop_all, take-append-drop, length-drop, get_or-drop, length_push}
-use Rattle.std.proofs.lemmas.Bool.{cases_lt, cond-true, le-leb}
-use Rattle.bits.specs.Area.{bits, splice, wide, field, fields, packed, field_written, field_inserted, field_removed}
+use Rattle.std.proofs.lemmas.List.{length-append, take-append-drop, length-drop, get_or-drop, length_push}
+use Rattle.std.proofs.lemmas.Bool.{cond-true, le-leb}
+use Rattle.bits.specs.Area.{splice, wide, field, fields, packed, field_written, field_inserted, field_removed}
 use Rattle.bits.specs.Laws.{Below}
 use Rattle.bits.proofs.Splices.{splice_up, splice_form, splice_div}
 use Rattle.bits.proofs.Packs.{length_fields, getD_fields, packed_fields, packed_lt, packed_append, fields_packed, fields_packed_over}

@@ -1,5 +1,5 @@
 -- The loops that move bits up and down, step by step.
-use Rattle.std.proofs.Common.{◌≡◌, ℕ, zero, suc, ◌+◌, ◌-◌, ◌*◌, ◌/◌, ◌%◌, ◌^◌, ◌<◌, ◌≤◌, ◌⊎◌, sym, refl, ap, ◌∙◌, subst, ap₂, inl, inr, lt_of_lt_of_le, mod-eq_of_lt, mul_assoc, add-mul, zero-mul, arith, pow_mono, pow-add, shr_lt}
+use Rattle.std.proofs.Common.{◌≡◌, ℕ, ◌+◌, ◌-◌, ◌*◌, ◌/◌, ◌%◌, ◌^◌, ◌<◌, ◌≤◌, ◌⊎◌, sym, ap, ◌∙◌, ap₂, inl, inr, lt_of_lt_of_le, mod-eq_of_lt, mul_assoc, add-mul, zero-mul, arith, pow_mono, pow-add, shr_lt}
 use Rattle.bits.specs.Area.{bits, splice}
 use Rattle.bits.proofs.Splices.{bits_lt, bits_add, splice_none, bits_splice_below, bits_splice_above, splice_join, splice_then, splice_agree, mod_over}
 

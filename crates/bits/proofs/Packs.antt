@@ -1,14 +1,11 @@
 -- Numbers and the lists of their fields.
-use Rattle.std.proofs.Common.{◌≡◌, ℕ, zero, suc, ◌+◌, ◌-◌, ◌*◌, ◌/◌, ◌%◌, ◌^◌, ◌<◌, ◌≤◌, min, ◌⊎◌, List, [], ◌∷◌, ◌++◌, length, get_or, take, drop, set, sym, refl, ap, ◌∙◌, subst, ap₂, inl, inr, ⊎_elim, lt_of_lt_of_le, le_of_suc-le-suc, not-suc-le-zero, add-zero, mul-le-mul_right, mod-lt, mod-eq_of_lt, zero-lt-suc, mul_assoc, suc-mul, add-mul, zero-mul, div-one, arith, pow_pos, pow_mono, pow-add, shr-shr}
+use Rattle.std.proofs.Common.{◌≡◌, ℕ, zero, suc, ◌+◌, ◌-◌, ◌*◌, ◌/◌, ◌%◌, ◌^◌, ◌<◌, ◌≤◌, List, [], ◌∷◌, ◌++◌, length, get_or, take, drop, sym, refl, ap, ◌∙◌, subst, ap₂, le_of_suc-le-suc, not-suc-le-zero, mul-le-mul_right, mod-lt, mod-eq_of_lt, zero-lt-suc, mul_assoc, suc-mul, add-mul, zero-mul, div-one, arith, pow_pos, pow-add, shr-shr}
 use native.Mathlib.Nat.{mod-one}
 use lib.Arith.{digits_lt}
-use lib.Pow.{split, mod-pow-add, high, low}
-use Rattle.std.specs.List.{insert, remove}
-use Rattle.std.proofs.lemmas.List.Edits.{length-insert, length-remove}
-use Rattle.std.proofs.lemmas.List.{take_all, drop_all, append-nil, length-append}
-use Rattle.std.proofs.lemmas.Bool.{cases_lt}
-use Rattle.bits.specs.Area.{bits, splice, wide, field, fields, packed, field_written, field_inserted, field_removed}
-use Rattle.bits.proofs.Splices.{room, splice_up, splice_form, splice_self, splice_then, bits_lt}
+use lib.Pow.{mod-pow-add, high, low}
+use Rattle.std.proofs.lemmas.List.{take_all, drop_all, append-nil}
+use Rattle.bits.specs.Area.{bits, splice, field, fields, packed, field_inserted, field_removed}
+use Rattle.bits.proofs.Splices.{room, splice_self, splice_then, bits_lt}
 use Rattle.bits.proofs.Moves.{bits_inserted, bits_removed}
 
 -- as many fields as are asked for

@@ -1,12 +1,12 @@
 -- Bits of an area, changed in its words.
-use Rattle.std.proofs.Common.{◌≡◌, ℕ, zero, suc, ◌+◌, ◌-◌, ◌*◌, ◌/◌, ◌%◌, ◌^◌, ◌<◌, ◌≤◌, ◌≢◌, List, [], ◌∷◌, ◌++◌, length, get_or, take, set, replicate, sym, refl, ap, ◌∙◌, subst, ap₂, le_refl, lt_of_lt_of_le, le_of_suc-le-suc, not-suc-le-zero, lt_of_le_of_lt, add-zero, mod-lt, mod-eq_of_lt, mul_assoc, mul_comm, add-mul, mul-one, arith, length-append, length-set, get_or-set_other, pow_pos, pow_mono, pow-add, shl_exact, shr_lt}
+use Rattle.std.proofs.Common.{◌≡◌, ℕ, zero, suc, ◌+◌, ◌-◌, ◌*◌, ◌/◌, ◌%◌, ◌^◌, ◌<◌, ◌≤◌, ◌≢◌, List, [], ◌∷◌, ◌++◌, length, get_or, take, set, replicate, sym, refl, ap, ◌∙◌, subst, ap₂, lt_of_lt_of_le, le_of_suc-le-suc, not-suc-le-zero, lt_of_le_of_lt, add-zero, mod-lt, mod-eq_of_lt, mul_assoc, mul_comm, add-mul, mul-one, arith, length-append, length-set, get_or-set_other, pow_pos, pow_mono, pow-add, shl_exact, shr_lt}
 use lib.ListN.{length-replicate}
 use lib.Bits.{bit_and, bit_or, and_mask, and_block, or_block, or_shifted, and_zero_r, or_zero_r, or_lt, and_le_l}
 use lib.Pow.{shr_le, mod-pow-add, split, high, low, ones_split, ones_lt}
 use Rattle.std.proofs.lemmas.List.{take_at}
 use Rattle.bits.specs.Area.{number, words_of, bits, splice}
 use Rattle.bits.specs.Words.{merge}
-use Rattle.bits.proofs.Numbers.{number_lt, number_words_fit, number_take, number_zeros, getD_zeros, words_number, words_same, words_mod, take_set_any, set_fits}
+use Rattle.bits.proofs.Numbers.{number_lt, number_words_fit, number_take, number_zeros, getD_zeros, words_number, words_mod, take_set_any, set_fits}
 use Rattle.bits.proofs.Splices.{bits_add, splice_lt, splice_sum, splice_of}
 use Rattle.bits.proofs.Gets.{bits_word, shl_mod}
 

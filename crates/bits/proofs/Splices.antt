@@ -1,5 +1,5 @@
 -- The laws of `bits` and `splice`. None speaks of words.
-use Rattle.std.proofs.Common.{◌≡◌, ℕ, zero, suc, ◌+◌, ◌-◌, ◌*◌, ◌/◌, ◌%◌, ◌^◌, ◌<◌, ◌≤◌, sym, refl, ap, ◌∙◌, subst, ap₂, ⊎_elim, le_refl, lt_of_lt_of_le, mul-le-mul_right, mod-lt, mul_assoc, suc-mul, mul_comm, add-mul, zero-mul, div-one, arith, pow_pos, pow_mono, pow-add, shr-shr, shr_lt}
+use Rattle.std.proofs.Common.{◌≡◌, ℕ, ◌+◌, ◌-◌, ◌*◌, ◌/◌, ◌%◌, ◌^◌, ◌<◌, ◌≤◌, sym, refl, ap, ◌∙◌, subst, ap₂, ⊎_elim, le_refl, mul-le-mul_right, mod-lt, mul_assoc, suc-mul, mul_comm, add-mul, arith, pow_pos, pow-add, shr-shr, shr_lt}
 use native.Mathlib.Nat.{add_right_cancel, mod-one}
 use lib.Arith.{digits_lt}
 use lib.Pow.{split, high, low, field, mod-pow-add, mod-mod-pow}

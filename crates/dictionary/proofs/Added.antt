@@ -1,5 +1,5 @@
 -- A key put into the table is put to the end of the list.
-use Rattle.std.proofs.Common.{◌≡◌, ℕ, ◌-◌, ◌^◌, ◌<◌, ◌≤◌, List, ◌++◌, None, Ok, Result, sym, ap, ◌∙◌}
+use Rattle.std.proofs.Common.{◌≡◌, ℕ, ◌^◌, ◌<◌, ◌≤◌, List, ◌++◌, None, Ok, Result, sym, ap, ◌∙◌}
 use Rattle.std.proofs.ByRecursion.{All-push}
 use Rattle.table.specs.declared.table.Table as table
 use Rattle.table.specs.declared.refusal.TableRefusal.{TableRefusal}

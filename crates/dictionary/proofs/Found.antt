@@ -1,5 +1,5 @@
 -- What a table answers that holds a list: a look-up, a load, and what stands against one more entry.
-use Rattle.std.proofs.Common.{◌≡◌, ℕ, ◌-◌, ◌/◌, ◌^◌, ◌<◌, ◌≤◌, ltb, List, [], get_or, sym, ap, ◌∙◌, ⊎_elim}
+use Rattle.std.proofs.Common.{◌≡◌, ℕ, ◌/◌, ◌^◌, ◌<◌, ◌≤◌, ltb, List, [], get_or, sym, ap, ◌∙◌, ⊎_elim}
 use Rattle.std.proofs.lemmas.Bool.{and_from, cases_lt, le-ltb, lt-ltb}
 use Rattle.std.specs.List.{AllByRecursion as All}
 use Rattle.table.specs.Meaning.{answer_of, found, found_at, in_range, load, value_in, weigh_held, weigh_range, weighed}

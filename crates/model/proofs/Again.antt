@@ -9,7 +9,7 @@ use Rattle.model.specs.declared.run_refusal.RunRefusal.{RunRefusal}
 use Rattle.model.specs.Entries.{Entries, cancel_refusal, count_if, first_of, group_load, run_of, take_one, take_refusal, take_room, within_run, without_run}
 use Rattle.model.specs.Model.{Fixed, Model, State, answered, closed, kind, opened, slot_of}
 use Rattle.model.specs.Step.{answer, run_end, step, to_cancel, to_take}
-use Rattle.model.specs.History.{accepted, held, is}
+use Rattle.model.specs.History.{accepted, held}
 use Rattle.model.specs.Laws.{Apart}
 use Rattle.model.proofs.Counting.{count_append, count_kept, two_parts}
 use Rattle.model.proofs.Loads.{WithinC, near}

@@ -5,12 +5,8 @@ use Rattle.std.proofs.lemmas.List.{append-nil, ext_get_or, get_or-set_other, get
 use Rattle.std.proofs.lemmas.Bool.{cases_eq, eq-eqb, ne_eqb}
 use Rattle.std.specs.List.{range_with_len, AllByRecursion as All}
 use Rattle.table.specs.Meaning.{value_in, without}
-use Rattle.table.specs.Slots.{within}
 use Rattle.model.specs.Entries.{Entries, content, slot_list}
-use Rattle.model.specs.Model.{other}
 use Rattle.model.specs.Laws.{Apart}
-use Rattle.model.proofs.Loads.{near}
-use Rattle.model.proofs.Standing.{key_from}
 
 module _ (slot quotient : ℕ → ℕ) where
   -- the slot of two lists, one after the other

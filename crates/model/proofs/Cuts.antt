@@ -8,10 +8,9 @@ use Rattle.table.specs.Meaning.{value_in}
 use Rattle.model.specs.declared.call.Call.{Call}
 use Rattle.model.specs.declared.call.Call.TheVariants.{At, Cancel, Count, Enlarge, Find, Open, Take}
 use Rattle.model.specs.declared.run_refusal.RunRefusal.{RunRefusal}
-use Rattle.model.specs.Refusals.{says}
 use Rattle.model.specs.Entries.{Entries, cancel_refusal, run_of, without_run}
 use Rattle.model.specs.Model.{Fixed, Model, Reply, State, answered, closed, entries, listed, opened, slot_of}
-use Rattle.model.specs.Step.{answer, asked, enlarge_fit, enlarge_room, larger_fits, open_fit, open_width, read_find, room_judged, run, run_end, step, take_judged, to_cancel, to_take, walk_of}
+use Rattle.model.specs.Step.{answer, enlarge_fit, enlarge_room, larger_fits, open_fit, open_width, read_find, room_judged, run, run_end, step, take_judged, to_cancel, to_take, walk_of}
 use Rattle.model.specs.History.{History, accepted, calls_of, changes, held, history, is, paired, quiet}
 use Rattle.model.specs.Laws.{Apart, Lawful, Listing, Lists, Walked}
 use Rattle.model.proofs.Balance.{held_entries}

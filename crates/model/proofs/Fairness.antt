@@ -3,7 +3,6 @@ use Rattle.std.proofs.Common.{◌≡◌, ℕ, ◌-◌, ◌/◌, ◌^◌, ◌<◌
 use Rattle.std.proofs.lemmas.Nat.{div-add-mod', mod_below}
 use Rattle.std.proofs.ByRecursion.{all-has, All-weaker, has_get_or}
 use Rattle.std.proofs.lemmas.Bool.{le-leb}
-use Rattle.std.proofs.lemmas.Bool.Decides.{nat_tests}
 use Rattle.std.specs.List.{AllByRecursion as All}
 use Rattle.table.specs.Meaning.{Good, load}
 use Rattle.table.specs.Slots.{within}
@@ -11,7 +10,6 @@ use Rattle.model.specs.declared.call.Call.{Call}
 use Rattle.model.specs.Entries.{Entries, group_load, slot_list}
 use Rattle.model.specs.Model.{Fixed, Model, State, closed, entries, kind, opened, quotient_of, slot_of, slots_of}
 use Rattle.model.specs.Step.{run}
-use Rattle.model.specs.History.{leaves}
 use Rattle.model.specs.Laws.{Apart, Fair, InUse, Lawful, WellUsed}
 use Rattle.model.proofs.Again.{step_again}
 use Rattle.model.proofs.Content.{apart_slot, getD_content, length_content}

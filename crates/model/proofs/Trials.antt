@@ -6,8 +6,6 @@ use Rattle.model.specs.Entries.{content, walk}
 use Rattle.model.specs.History.{is}
 use Rattle.model.specs.Laws.{Lawful, LawfulCoding, LawfulKind}
 use Rattle.model.specs.Tried.{Tried, between, fitting_from, from_to, nights}
-use Rattle.model.proofs.Agreement.{no_room}
-use Rattle.model.proofs.Standing.{grouped, narrow}
 
 -- a number in the range is itself
 from_to_is : (low high x m : ℕ) → from_to low high x ≡ Some m → (x ≡ m) × (m ≤ high)

@@ -7,7 +7,6 @@ use Rattle.std.proofs.lemmas.Bool.Decides.{nat_tests}
 use Rattle.std.specs.List.{ContainsAt as Has, AllByRecursion as All}
 use Rattle.table.specs.Meaning.{value_in}
 use Rattle.model.specs.Entries.{Entries, count_if, walk}
-use Rattle.model.specs.History.{is}
 use Rattle.model.specs.Laws.{Apart}
 use Rattle.model.proofs.Runs.{apart_kept, not_there, value_kept}
 

@@ -14,7 +14,7 @@ use Rattle.std.specs.List.{AllByRecursion as All}
 use Rattle.model.specs.declared.call.Call.{Call}
 use Rattle.model.specs.declared.call.Call.TheVariants.{Open, Take, Cancel, Find, Count, At, Enlarge}
 use Rattle.model.specs.Entries.{within_run}
-use Rattle.model.specs.Model.{Fixed, Model, closed, Reply, refused, refused_at, answered, found, listed}
+use Rattle.model.specs.Model.{Fixed, closed, Reply, refused, refused_at, answered, found, listed}
 use Rattle.model.specs.Step.{run}
 
 -- calls with their replies, the first call first

@@ -8,14 +8,14 @@
 --   Follows, Alike, AlwaysAlike      alike
 --   half_list, Moves, Enlarged, AlwaysMoved   what an enlargement does in the tables
 --   Fair, AlwaysFair                 what makes the machine a fair judge
-use Rattle.std.specs.Prelude.{◌≡◌, ℕ, suc, ◌+◌, ◌-◌, ◌*◌, ◌/◌, ◌%◌, ◌^◌, ◌<◌, ◌≤◌, Bool, true, false, cond, List, [], ◌∷◌, ◌++◌, length, get_or, Some, None, Option, ◌==◌, nat_eq, slice_index_or}
+use Rattle.std.specs.Prelude.{◌≡◌, ℕ, suc, ◌+◌, ◌-◌, ◌*◌, ◌/◌, ◌%◌, ◌^◌, ◌<◌, ◌≤◌, Bool, true, false, cond, List, [], ◌∷◌, ◌++◌, length, get_or, Some, None, ◌==◌, nat_eq, slice_index_or}
 use Rattle.std.specs.List.{ContainsAt as Has, AllByRecursion as All, slice_get}
 use Rattle.table.specs.Slots.{within}
 use Rattle.table.specs.Meaning.{Meaning, unformed, formed, value_in, load, Fit, WellFormed}
 use Rattle.model.specs.declared.call.Call.{Call}
 use Rattle.model.specs.declared.call.Call.TheVariants.{Open, Take, Cancel, Find, Count, At, Enlarge}
 use Rattle.model.specs.Entries.{Entries, count_if, group_load, content}
-use Rattle.model.specs.Model.{Coding, Mixing, Kind, Fixed, Side, on_first, on_second, other, State, Model, closed, opened, entries, Reply, answered, listed, kind, slot_of, quotient_of, slots_of, table_of}
+use Rattle.model.specs.Model.{Coding, Mixing, Kind, Fixed, on_first, on_second, other, State, Model, closed, opened, entries, Reply, answered, listed, kind, slot_of, quotient_of, slots_of, table_of}
 use Rattle.model.specs.Step.{step, run}
 use Rattle.model.specs.History.{History, calls_of, accepted, from_key, held, LastTake, held_under, held_count, taken, cancelled, quiet, answers_four, full_take, any_before, history}
 

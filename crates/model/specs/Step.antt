@@ -12,7 +12,7 @@ use Rattle.model.specs.declared.refusal.Refusal.{Refusal}
 use Rattle.model.specs.declared.refusal.Refusal.TheVariants.{UnknownKey, UnknownValue, RunLength, Closed, AlreadyOpen, PermutationWidth, NoSuchPlace, Table}
 use Rattle.model.specs.declared.run_refusal.RunRefusal.{RunRefusal}
 use Rattle.model.specs.Entries.{Entries, run_of, without_run, take_refusal, cancel_refusal, groups_hold, walk}
-use Rattle.model.specs.Model.{Fixed, Side, on_first, other, State, Model, closed, opened, entries, Reply, answered, found, listed, declined, declined_at, kind, slot_of}
+use Rattle.model.specs.Model.{Fixed, on_first, other, State, Model, closed, opened, entries, Reply, answered, found, listed, declined, declined_at, kind, slot_of}
 
 -- a call as it comes to the machine
 pub data Asked : Type 0 where

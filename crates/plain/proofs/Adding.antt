@@ -1,5 +1,5 @@
 -- What stands against one more entry of a block, and what adding it leaves.
-use Rattle.std.proofs.Common.{◌≡◌, ℕ, ◌+◌, ◌-◌, ◌*◌, ◌^◌, ◌<◌, ◌≤◌, min, Bool, true, false, List, [], ◌∷◌, ◌++◌, map, length, get_or, take, drop, set, Some, None, Ok, Err, Option, Result, sym, refl, ap, ◌∙◌, subst, ⊎_elim, arith, pow_mono}
+use Rattle.std.proofs.Common.{◌≡◌, ℕ, ◌+◌, ◌-◌, ◌*◌, ◌^◌, ◌<◌, ◌≤◌, min, List, [], ◌∷◌, map, length, get_or, take, drop, set, Some, None, Ok, Err, Option, Result, sym, ap, ◌∙◌, ⊎_elim, arith, pow_mono}
 use Rattle.std.proofs.lemmas.Bool.{le-leb, lt-leb, cases_lt}
 use Rattle.table.specs.declared.refusal.TableRefusal.{TableRefusal}
 use Rattle.table.specs.Slots.{full}
@@ -8,7 +8,7 @@ use Rattle.table.specs.Meaning.{value_in, weigh_held, weigh_room}
 use Rattle.table.specs.Layout.{group_added, group_reply}
 use Rattle.table.proofs.Calls.{room_below}
 use Rattle.table.proofs.Slots.{first_value}
-use Rattle.plain.specs.Layout.{block_of, block_of_group, entries_of, entry_of, Stored}
+use Rattle.plain.specs.Layout.{block_of_group, entries_of, entry_of, Stored}
 use Rattle.plain.specs.Blocks.{block_push, stored_count}
 use Rattle.plain.proofs.Places.{no_place, some_place}
 

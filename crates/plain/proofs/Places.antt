@@ -1,8 +1,6 @@
 -- A quotient looked for among the words of entries.
-use Rattle.std.proofs.Common.{◌≡◌, ℕ, ◌+◌, ◌/◌, ◌%◌, ◌^◌, ◌<◌, ◌≤◌, List, map, length, get_or, take, drop, Some, None, Ok, Err, Result, sym, ap, ◌∙◌, subst, arith}
+use Rattle.std.proofs.Common.{◌≡◌, ℕ, ◌+◌, ◌/◌, ◌%◌, ◌^◌, ◌<◌, ◌≤◌, List, map, length, get_or, take, drop, None, Ok, sym, ap, ◌∙◌, subst, arith}
 use Rattle.std.proofs.lemmas.List.{length-map, get_or-map}
-use Rattle.table.specs.declared.refusal.TableRefusal.{TableRefusal}
-use Rattle.table.specs.declared.refusal.TableRefusal.TheVariants.{Absent}
 use Rattle.table.specs.Meaning.{value_in, answer_of}
 use Rattle.table.specs.Places.{First}
 use Rattle.table.proofs.Slots.{none_from, first_value}

@@ -1,17 +1,17 @@
 -- Taking an entry out of a block.
-use Rattle.std.proofs.Common.{◌≡◌, ℕ, zero, suc, ◌+◌, ◌-◌, ◌*◌, ◌/◌, ◌%◌, ◌^◌, ◌<◌, ◌≤◌, List, [], ◌∷◌, ◌++◌, map, length, get_or, take, drop, set, replicate, Some, None, Ok, Err, Option, Result, sym, refl, ap, ◌∙◌, subst, ap₂, add-one, arith}
+use Rattle.std.proofs.Common.{◌≡◌, ℕ, suc, ◌+◌, ◌-◌, ◌/◌, ◌^◌, ◌<◌, ◌≤◌, List, [], ◌∷◌, ◌++◌, map, length, get_or, take, drop, set, replicate, None, Ok, Err, Result, sym, refl, ap, ◌∙◌, ap₂, add-one, arith}
 use borrow.Rule.Slice.PartMut.{put_mid}
 use Rattle.std.specs.List.{remove}
 use Rattle.std.proofs.lemmas.List.Edits.{length-remove}
-use Rattle.std.proofs.lemmas.List.{append_assoc, map-append, take-map, drop-map, length-map, length-append, length-take-le, length-drop, take-append-drop, drop_more, take_at, drop_at, set_at, get_or-map, get_or-take, get_or-drop}
+use Rattle.std.proofs.lemmas.List.{append_assoc, map-append, take-map, drop-map, length-map, length-append, length-take-le, length-drop, take-append-drop, drop_more, take_at, drop_at, set_at}
 use Rattle.table.specs.declared.refusal.TableRefusal.{TableRefusal}
 use Rattle.table.specs.declared.refusal.TableRefusal.TheVariants.{Absent}
 use Rattle.table.specs.Meaning.{value_in, without}
 use Rattle.table.specs.Places.{First}
 use Rattle.table.specs.Layout.{group_removed, group_without}
 use Rattle.table.proofs.Slots.{first_value, first_without}
-use Rattle.plain.specs.Layout.{block_of, block_of_group, entries_of, word_of, entry_of, Stored}
-use Rattle.plain.specs.Blocks.{stored_count, stored_length, entry_at}
+use Rattle.plain.specs.Layout.{block_of, block_of_group, entries_of, word_of, Stored}
+use Rattle.plain.specs.Blocks.{stored_count, entry_at}
 
 -- the words moved down by one over the first, the last made zero
 pub closed : (p last : List ℕ) → 0 < length p → last ≡ drop 1 p ++ take 1 p → set last (length last - 1) 0 ≡ drop 1 p ++ (0 ∷ [])

@@ -1,12 +1,11 @@
 -- A slot's entries and its block, one to one.
-use Rattle.std.specs.Prelude.{◌≡◌, ℕ, zero, suc, ◌+◌, ◌-◌, ◌*◌, ◌/◌, ◌%◌, ◌^◌, ◌<◌, ◌≤◌, List, [], ◌∷◌, ◌++◌, map, length, get_or, take, drop, set, replicate, Ok, Err, Result, slice_index, slice_index_or, slice_set, refl}
+use Rattle.std.specs.Prelude.{◌≡◌, ℕ, suc, ◌+◌, ◌-◌, ◌^◌, ◌<◌, ◌≤◌, List, [], ◌∷◌, ◌++◌, map, length, get_or, take, drop, set, replicate, Ok, Err, slice_index, slice_index_or, slice_set, refl}
 use Rattle.std.proofs.Common.{sym, ap₂, subst, ◌∙◌, add-one, pow_mono}
 use Rattle.std.proofs.Math.Path.{ap}
 use native.Mathlib.Omega.{arith}
 use Rattle.std.proofs.lemmas.Nat.{mod-mul-add, div-mul-add, div-add-mod'}
 use Rattle.std.proofs.lemmas.List.{length-append, length-map, length-replicate, length_push, length-take-le, take_at, set_at, map-append, append_assoc, take-append-drop, length-drop, get_or-take, get_or-drop, get_or-map}
 use Rattle.std.proofs.lemmas.Bool.{lt-ltb, le-ltb}
-use Rattle.table.specs.declared.refusal.TableRefusal.{TableRefusal}
 use Rattle.table.specs.declared.refusal.TableRefusal.TheVariants.{OutOfRange}
 use Rattle.table.specs.Meaning.{Good, picked, picked_at}
 use Rattle.plain.specs.Layout.{word_of, entry_of, block_of, entries_of, Stored}

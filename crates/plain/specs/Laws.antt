@@ -1,6 +1,6 @@
 -- The plain layout keeps the laws of a layout.
-use Rattle.std.specs.Prelude.{◌≡◌, ℕ, ◌+◌, ◌-◌, ◌*◌, ◌/◌, ◌%◌, ◌^◌, ◌<◌, ◌≤◌, Bool, true, false, ◌&&◌, leb, List, [], ◌∷◌, length, Some, nat_le, slice_index_or, refl}
-use Rattle.std.proofs.Common.{sym, ap, ap₂, subst, ◌∙◌, mul-one, div-one, arith}
+use Rattle.std.specs.Prelude.{◌≡◌, ℕ, ◌+◌, ◌-◌, ◌*◌, ◌^◌, ◌<◌, ◌≤◌, Bool, true, false, ◌&&◌, leb, List, [], ◌∷◌, length, Some, nat_le, slice_index_or, refl}
+use Rattle.std.proofs.Common.{sym, ap, ap₂, subst, ◌∙◌, mul-one, arith}
 use Rattle.std.proofs.Math.Nat.{mod-one}
 use Rattle.std.proofs.lemmas.Bool.{and_parts, leb-true, ltb-true, le-leb, lt-leb}
 use Rattle.table.specs.declared.shape.Shape.{Shape}
@@ -9,7 +9,7 @@ use Rattle.table.proofs.Setting.{shape_fits}
 use Rattle.table.specs.Meaning.{total, Good, Fit}
 use Rattle.table.specs.Layout.{GoodGroup}
 use Rattle.table.specs.Lawful.{Lawful}
-use Rattle.plain.specs.Layout.{block_of, entries_of, block_of_group, fits, plain, Stored}
+use Rattle.plain.specs.Layout.{block_of, block_of_group, fits, plain, Stored}
 use Rattle.plain.specs.Blocks.{length_block, entries_block, stored_good}
 
 -- what fits, as bounds

@@ -1,16 +1,16 @@
 -- A plain table's words: one slot's block in them, and what the calls answer and leave.
-use Rattle.std.specs.Prelude.{◌≡◌, ℕ, ◌+◌, ◌-◌, ◌*◌, ◌/◌, ◌%◌, ◌^◌, ◌<◌, ◌≤◌, Bool, true, false, ◌&&◌, List, [], ◌∷◌, length, get_or, take, drop, replicate, Some, None, Ok, Err, vec_items, Option, Result, nat_lt, slice_index_or, refl}
+use Rattle.std.specs.Prelude.{◌≡◌, ℕ, ◌+◌, ◌-◌, ◌*◌, ◌/◌, ◌^◌, ◌<◌, ◌≤◌, Bool, true, false, ◌&&◌, List, [], ◌∷◌, length, get_or, take, drop, replicate, Some, None, Ok, vec_items, Result, nat_lt, slice_index_or, refl}
 use Rattle.std.proofs.Math.Path.{sym, ap}
 use Rattle.std.proofs.Common.{ap₂, subst, ◌∙◌, div-one, arith}
 use Rattle.std.proofs.Math.Nat.{mod-one}
 use borrow.Rule.Slice.PartMut.{put_mid}
 use Rattle.std.specs.Vec.{with_items}
-use Rattle.std.proofs.lemmas.Bool.{ltb-true, leb-true}
+use Rattle.std.proofs.lemmas.Bool.{ltb-true}
 use Rattle.table.specs.declared.refusal.TableRefusal.{TableRefusal}
 use Rattle.table.specs.declared.shape.Shape.{Shape}
-use Rattle.table.specs.Meaning.{Meaning, unformed, formed, value_in, total, load, has_slot, in_range, answer_of, found, found_at, sized, sized_at, picked, entered, entered_at, loaded, loaded_at, weigh_held, weigh_range, added, admitted, removed_from, formed_anew, formed_at, WellFormed}
+use Rattle.table.specs.Meaning.{Meaning, unformed, formed, value_in, load, has_slot, in_range, answer_of, found, found_at, sized, sized_at, picked, entered, entered_at, loaded, loaded_at, weigh_held, weigh_range, added, admitted, removed_from, formed_anew, WellFormed}
 use Rattle.table.specs.Widths.{shape_where, widths}
-use Rattle.table.specs.Layout.{group_at, group_added, group_removed, words_of, content, meaning, Well}
+use Rattle.table.specs.Layout.{group_at, group_added, group_removed, words_of, content, Well}
 use Rattle.table.specs.Checking.{Holds}
 use Rattle.table.proofs.Calls.{load_one}
 use Rattle.table.proofs.Setting.{form_step, count_moved, unfit}
@@ -20,7 +20,7 @@ use Rattle.table.proofs.Steps.{Step, means_here, well_here, inside, good_here, s
 use Rattle.plain.specs.declared.state.PlainTable.{PlainTable}
 use Rattle.plain.specs.Layout.{block_of_group, entries_of, fits, plain, Stored}
 use Rattle.plain.specs.Means.{means, items, size}
-use Rattle.plain.specs.Laws.{plain_laws, fitting, narrow_fit, group_stored}
+use Rattle.plain.specs.Laws.{plain_laws, narrow_fit, group_stored}
 
 module _ (t : PlainTable) (shape : Shape) (is : t.shape ≡ Some shape) (s : ℕ) (ok : has_slot shape.b s ≡ true) where
   low : s < 2 ^ shape.b

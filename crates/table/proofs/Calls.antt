@@ -1,14 +1,14 @@
 -- Add and remove as changes of one group, and what a refusal leaves.
-use Rattle.std.proofs.Common.{◌≡◌, ℕ, zero, suc, ◌+◌, ◌-◌, ◌*◌, ◌/◌, ◌%◌, ◌^◌, ◌<◌, ◌≤◌, Bool, true, false, ◌&&◌, ltb, leb, List, [], ◌∷◌, ◌++◌, length, get_or, take, drop, set, replicate, Some, None, Ok, Err, Option, Result, sym, refl, ap, ◌∙◌, subst, ap₂, ⊎_elim, add-zero, mul-one, div-one, arith}
+use Rattle.std.proofs.Common.{◌≡◌, ℕ, zero, suc, ◌+◌, ◌*◌, ◌/◌, ◌%◌, ◌^◌, ◌<◌, ◌≤◌, Bool, true, false, ◌&&◌, ltb, List, [], ◌∷◌, ◌++◌, length, get_or, take, drop, set, Some, None, Ok, Err, Option, Result, sym, refl, ap, ◌∙◌, subst, ⊎_elim, add-zero, mul-one, div-one, arith}
 use Rattle.std.proofs.lemmas.Nat.{div_below}
 use Rattle.std.proofs.lemmas.Bool.{cases_eq, leb-true, leb-false, le-leb}
 use Rattle.std.proofs.lemmas.List.{length_push, length-set, set-get_or, get_or-set_same, get_or-set_other, drop_more}
 use Rattle.table.specs.declared.refusal.TableRefusal.{TableRefusal}
-use Rattle.table.specs.Slots.{full, within}
+use Rattle.table.specs.Slots.{full}
 use Rattle.table.specs.Meaning.{Meaning, unformed, formed, Good, value_in, without, total, load, in_range, formed_anew, formed_at, weigh_held, weigh_room, weigh_range, weighed, added, add_reply, admitted, removed_from, remove_at, remove_end}
 use Rattle.table.specs.Layout.{group_at, groups, group_added, group_reply, group_removed, group_without, GoodGroup}
 use Rattle.table.proofs.Slots.{good_push, good_without, length_without}
-use Rattle.table.proofs.Groups.{getD_groups, length_groups, slot_at, set_groups}
+use Rattle.table.proofs.Groups.{getD_groups, slot_at, set_groups}
 
 -- ---- loads
 

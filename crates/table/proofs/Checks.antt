@@ -1,5 +1,5 @@
 -- Words that are those of a content, from their blocks and back; what the scan for the first wrong block comes to.
-use Rattle.std.proofs.Common.{◌≡◌, ℕ, ◌+◌, ◌-◌, ◌*◌, ◌/◌, ◌%◌, ◌^◌, ◌<◌, ◌≤◌, Bool, true, false, ◌⊎◌, List, [], ◌∷◌, ◌++◌, map, length, get_or, take, drop, set, replicate, Ok, Err, Decides, Result, sym, refl, ap, ◌∙◌, subst, ap₂, inl, inr, ⊎_elim, arith, below_more}
+use Rattle.std.proofs.Common.{◌≡◌, ℕ, ◌+◌, ◌-◌, ◌*◌, ◌<◌, Bool, true, false, List, [], ◌++◌, map, length, get_or, drop, replicate, Ok, Err, Decides, Result, sym, refl, ap, ◌∙◌, subst, inl, inr, ⊎_elim, arith, below_more}
 use Rattle.std.specs.List.{range_with_len, flat_map}
 use Rattle.std.proofs.lemmas.List.{length-drop}
 use Rattle.std.proofs.lemmas.List.FromFn.{get_or-map-range_with_len, length-map-range_with_len}
@@ -7,7 +7,7 @@ use Rattle.std.proofs.lemmas.Bool.Decides.{not_from_Decides}
 use Rattle.table.specs.declared.check_refusal.CheckRefusal.{CheckRefusal}
 use Rattle.table.specs.declared.check_refusal.CheckRefusal.TheVariants.{DoesNotFit, WrongBlock}
 use Rattle.table.specs.Meaning.{formed, WellFormed}
-use Rattle.table.specs.Layout.{Layout, group_at, groups, GoodGroup, part, words_of, content}
+use Rattle.table.specs.Layout.{Layout, group_at, GoodGroup, part, words_of, content}
 use Rattle.table.specs.Lawful.{Lawful}
 use Rattle.table.specs.Checking.{Given, Holds, Wrong, Checked}
 use Rattle.table.proofs.Blocks.{words_read}

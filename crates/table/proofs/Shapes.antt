@@ -1,5 +1,5 @@
 -- A shape and the widths that it was made of.
-use Rattle.std.proofs.Common.{◌≡◌, ℕ, Bool, true, false, Some, None, Option, sym, refl, ap, ◌∙◌, subst, arith}
+use Rattle.std.proofs.Common.{◌≡◌, ℕ, Bool, true, false, Some, None, refl, ap, subst, arith}
 use Rattle.table.specs.declared.shape.Shape.{Shape}
 use Rattle.table.specs.Widths.{shape_where, widths}
 

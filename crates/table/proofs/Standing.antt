@@ -1,5 +1,5 @@
 -- Words that stand for a content, in any lawful layout.
-use Rattle.std.proofs.Common.{◌≡◌, ℕ, zero, suc, ◌+◌, ◌-◌, ◌*◌, ◌/◌, ◌%◌, ◌^◌, ◌<◌, ◌≤◌, Bool, true, false, List, [], ◌∷◌, ◌++◌, map, length, get_or, take, drop, set, replicate, Some, None, vec_items, Option, Vec, sym, refl, ap, ◌∙◌, subst, ap₂, add-mul, one-mul, zero-mul, add-one, arith}
+use Rattle.std.proofs.Common.{◌≡◌, ℕ, zero, suc, ◌+◌, ◌-◌, ◌*◌, ◌/◌, ◌^◌, ◌<◌, ◌≤◌, Bool, true, List, [], ◌∷◌, ◌++◌, map, length, get_or, take, drop, set, replicate, Some, None, vec_items, Option, Vec, sym, refl, ap, ◌∙◌, subst, ap₂, add-mul, one-mul, zero-mul, add-one, arith}
 use mathlib.Core.Logic.{∥∥₁_elim}
 use Prim.{IsProp}
 use std.HLevel.{Π_prop, ⊥_prop}
@@ -7,21 +7,19 @@ use native.Mathlib.Bridge.{le_prop}
 use native.Mathlib.Nat.{ℕ_set}
 use base.Stored.{Coded-set, coded_bool}
 use borrow.Rule.Slice.PartMut.{put_mid}
-use Rattle.std.specs.List.{range_with_len, flat_map, AllByRecursion as All}
-use Rattle.std.proofs.lemmas.Nat.{div_below, mod_below}
+use Rattle.std.specs.List.{range_with_len, flat_map}
+use Rattle.std.proofs.lemmas.Nat.{div_below}
 use Rattle.std.proofs.lemmas.Bool.{le-leb}
 use Rattle.std.proofs.lemmas.List.{length-replicate, get_or-replicate, replicate-append-replicate, length-set, take-replicate, drop-replicate, with_items_is}
-use Rattle.std.proofs.ByRecursion.{All-from_get_or}
 use Rattle.std.specs.Vec.{with_items}
 use Rattle.table.specs.declared.shape.Shape.{Shape}
-use Rattle.table.specs.Slots.{within}
 use Rattle.table.specs.Meaning.{Meaning, unformed, formed, total, load, Good, WellFormed}
 use Rattle.table.specs.Layout.{Layout, group_at, groups, GoodGroup, part, words_of, content, meaning, Well}
 use Rattle.table.specs.Lawful.{Lawful}
 use Rattle.table.proofs.Slots.{good_empty}
 use Rattle.table.proofs.Calls.{Changed}
 use Rattle.table.proofs.Blocks as blocks
-use Rattle.table.proofs.Groups.{inside_groups, length_groups, getD_groups, joined_groups, length_group, well_groups, groups_well}
+use Rattle.table.proofs.Groups.{inside_groups, length_groups, getD_groups, joined_groups, well_groups, groups_well}
 
 -- ---- one proof at most
 

@@ -1,15 +1,15 @@
 -- A formed table's words: one group's block in them, and a call that changes that block.
-use Rattle.std.proofs.Common.{◌≡◌, ℕ, ◌+◌, ◌-◌, ◌*◌, ◌/◌, ◌%◌, ◌^◌, ◌<◌, ◌≤◌, Bool, true, false, ◌&&◌, ltb, List, [], length, get_or, take, drop, set, Some, Option, Result, sym, refl, ap, ◌∙◌, subst, ap₂, arith}
+use Rattle.std.proofs.Common.{◌≡◌, ℕ, ◌+◌, ◌-◌, ◌*◌, ◌/◌, ◌%◌, ◌^◌, ◌<◌, ◌≤◌, true, ◌&&◌, ltb, List, [], length, get_or, take, drop, Some, Option, Result, sym, refl, ap, ◌∙◌, subst, ap₂, arith}
 use borrow.Rule.Slice.PartMut.{put_mid}
 use Rattle.std.proofs.lemmas.Nat.{div_below, mod_below}
 use Rattle.std.proofs.lemmas.Bool.{and_parts, ltb-true}
 use Rattle.table.specs.declared.refusal.TableRefusal.{TableRefusal}
 use Rattle.table.specs.declared.shape.Shape.{Shape}
-use Rattle.table.specs.Meaning.{Meaning, formed, value_in, total, load, in_range, has_slot, weigh_held, added, admitted, removed_from, WellFormed}
-use Rattle.table.specs.Layout.{Layout, group_at, groups, group_added, group_removed, GoodGroup, part, words_of, content, meaning, Well}
+use Rattle.table.specs.Meaning.{Meaning, formed, in_range, has_slot, added, removed_from, WellFormed}
+use Rattle.table.specs.Layout.{Layout, group_at, group_added, group_removed, GoodGroup, part, words_of, content, meaning, Well}
 use Rattle.table.specs.Lawful.{Lawful}
 use Rattle.table.proofs.Groups.{inside_groups, getD_groups, slot_at}
-use Rattle.table.proofs.Calls.{good_added, good_taken, Changed, added_changes, added_answers, removed_changes, removed_answers, admitted_is}
+use Rattle.table.proofs.Calls.{good_added, good_taken, Changed, added_changes, added_answers, removed_changes, removed_answers}
 use Rattle.table.proofs.Standing.{bare, Stands, stands_found, slot_count, fine, block_words, put_words, well_new}
 
 -- what a changing call leaves and answers

@@ -1,6 +1,6 @@
-use Rattle.std.proofs.Common.{◌≡◌, ◌+◌, true, false, get_or, sym, ap, ◌∙◌, arith}
+use Rattle.std.proofs.Common.{◌≡◌, true, false, get_or, arith}
 use Rattle.std.proofs.lemmas.Bool.{not-true, not-false}
-use Rattle.arrivals.specs.Lines.{of_kind, run_length}
+use Rattle.arrivals.specs.Lines.{of_kind}
 use Rattle.arrivals.proofs.Reading.{run_more, run_ends, run_none}
 use Rattle.arrivals.proofs.lines.run_length.Goals as goal
 

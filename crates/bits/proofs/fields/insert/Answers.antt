@@ -1,4 +1,4 @@
-use Rattle.std.proofs.Common.{◌≡◌, ◌+◌, ◌-◌, ◌*◌, min, max, length, ap, ◌∙◌, ap₂}
+use Rattle.std.proofs.Common.{◌≡◌, ◌+◌, ◌-◌, ◌*◌, min, max, length, ap, ◌∙◌}
 use Rattle.bits.specs.Area.{number, words_of, field_inserted}
 use Rattle.bits.proofs.Edits.{insert_all}
 use Rattle.bits.proofs.fields.insert.Goals as goal

@@ -1,7 +1,6 @@
-use Rattle.std.proofs.Common.{◌≡◌, ◌+◌, ◌-◌, ◌*◌, ◌≤◌, length, subst, arith}
-use Rattle.bits.specs.Area.{number}
+use Rattle.std.proofs.Common.{◌+◌, ◌*◌, ◌≤◌, length, arith}
 use Rattle.bits.proofs.Puts.{put_inside}
-use Rattle.bits.proofs.Moves.{Lowered, lowered_none, lowered_more}
+use Rattle.bits.proofs.Moves.{lowered_none, lowered_more}
 use Rattle.bits.proofs.fields.lower.Goals as goal
 
 pub loop-at-init : goal.loop-at-init

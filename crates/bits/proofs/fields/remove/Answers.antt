@@ -1,4 +1,4 @@
-use Rattle.std.proofs.Common.{◌≡◌, ◌+◌, ◌-◌, ◌*◌, min, max, length, ap, ◌∙◌}
+use Rattle.std.proofs.Common.{◌≡◌, ◌-◌, ◌*◌, min, max, length, ap, ◌∙◌}
 use Rattle.bits.specs.Area.{number, words_of, field_removed}
 use Rattle.bits.proofs.Edits.{remove_all, remove_none}
 use Rattle.bits.proofs.fields.remove.Goals as goal

@@ -1,4 +1,4 @@
-use Rattle.std.proofs.Common.{sym, ◌∙◌, arith}
+use Rattle.std.proofs.Common.{arith}
 use Rattle.std.proofs.lemmas.Bool.{leb-true, leb-false, eqb-true}
 use Rattle.bits.proofs.Scans.{decides, marked_from, marked_below, marked_few}
 use Rattle.bits.proofs.marks.is_marks.Goals as goal

@@ -1,4 +1,4 @@
-use Rattle.std.proofs.Common.{◌≡◌, ℕ, ◌%◌, ◌<◌, map, get_or}
+use Rattle.std.proofs.Common.{◌≡◌, ℕ, ◌%◌, ◌<◌, get_or}
 use Rattle.plain.proofs.block.place.Given as goal
 
 abbrev pub invariant-loop-i : goal.invariant-loop-i

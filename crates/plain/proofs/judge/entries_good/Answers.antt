@@ -1,7 +1,6 @@
-use Rattle.std.proofs.Common.{◌≡◌, ◌-◌, ap, arith}
+use Rattle.std.proofs.Common.{◌-◌, arith}
 use Rattle.std.proofs.lemmas.Nat.{one_shl}
-use Rattle.table.specs.Meaning.{Good}
-use Rattle.plain.proofs.Judged.{good_none, good_more, good_all, wide_quotient, wide_value, twice}
+use Rattle.plain.proofs.Judged.{good_more, good_all, wide_quotient, wide_value, twice}
 use Rattle.plain.proofs.judge.entries_good.Goals as goal
 
 pub loop-i-preserved : goal.loop-i-preserved

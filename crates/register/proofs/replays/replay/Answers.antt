@@ -11,8 +11,8 @@ loop-i-init g c = record {
   rest = refl;
 }
 
-pub offset-bounds-answers-i : goal.offset-bounds-answers-i
-offset-bounds-answers-i g c = let h : c.loop-i.i < length c.args.answers.now = omega arith in search rules
+pub offset_bounds-answers-i : goal.offset_bounds-answers-i
+offset_bounds-answers-i g c = let h : c.loop-i.i < length c.args.answers.now = omega arith in search rules
 
 pub loop-i-preserved : goal.loop-i-preserved
 loop-i-preserved g c =

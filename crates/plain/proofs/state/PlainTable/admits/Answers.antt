@@ -1,4 +1,4 @@
-use Rattle.std.proofs.Common.{◌≡◌, vec_items, sym, ap, ◌∙◌, arith, rules}
+use Rattle.std.proofs.Common.{sym, ◌∙◌, arith, rules}
 use Rattle.std.proofs.lemmas.Bool.{and_parts}
 use Rattle.plain.specs.Standing.{inside_table, stored_table, admitted_table}
 use Rattle.plain.proofs.state.PlainTable.admits.Goals as goal

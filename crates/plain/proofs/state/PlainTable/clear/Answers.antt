@@ -1,4 +1,4 @@
-use Rattle.std.proofs.Common.{◌≡◌, length, replicate, None, vec_items, sym, refl, ap, ◌∙◌}
+use Rattle.std.proofs.Common.{length, replicate, None, vec_items, sym, refl, ap, ◌∙◌}
 use Rattle.table.specs.Meaning.{unformed}
 use Rattle.table.proofs.Standing.{stands_none, refilled_stands}
 use Rattle.plain.specs.Layout.{plain}

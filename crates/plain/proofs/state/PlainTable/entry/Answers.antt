@@ -1,4 +1,4 @@
-use Rattle.std.proofs.Common.{◌≡◌, vec_items, sym, ap, ◌∙◌, arith, rules}
+use Rattle.std.proofs.Common.{sym, ◌∙◌, arith, rules}
 use Rattle.plain.specs.Standing.{inside_table, stored_table, entered_table}
 use Rattle.plain.proofs.state.PlainTable.entry.Goals as goal
 

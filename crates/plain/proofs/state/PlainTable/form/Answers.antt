@@ -1,4 +1,4 @@
-use Rattle.std.proofs.Common.{◌≡◌, length, replicate, vec_items, sym, refl, ap, ◌∙◌, rules}
+use Rattle.std.proofs.Common.{◌≡◌, length, vec_items, sym, refl, ap, ◌∙◌, rules}
 use Rattle.table.specs.Meaning.{formed_at}
 use Rattle.table.proofs.Shapes.{unshaped}
 use Rattle.plain.specs.Layout.{fits}

@@ -1,4 +1,4 @@
-use Rattle.std.proofs.Common.{◌≡◌, length, vec_items, sym, refl, ap, ◌∙◌, subst}
+use Rattle.std.proofs.Common.{length, vec_items, sym, refl, ◌∙◌, subst}
 use Rattle.table.specs.Checking.{Holds}
 use Rattle.table.proofs.Shapes.{Shaped, shaped, moved}
 use Rattle.table.proofs.Standing.{stands_found}

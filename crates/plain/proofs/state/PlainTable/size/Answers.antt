@@ -1,4 +1,4 @@
-use Rattle.std.proofs.Common.{◌≡◌, Ok, vec_items, sym, ap, ◌∙◌, arith, rules}
+use Rattle.std.proofs.Common.{Ok, sym, ap, ◌∙◌, arith, rules}
 use Rattle.plain.specs.Standing.{inside_table, stored_table, sized_table}
 use Rattle.plain.proofs.state.PlainTable.size.Goals as goal
 

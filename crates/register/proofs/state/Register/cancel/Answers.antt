@@ -25,21 +25,21 @@ law g r =
     (lawful_kind g.B.Table g.met.B.Table.grouped g.met.B.Table.limited g.met.B.Table.fitting)
     r.keys r.values r.permutation r.first r.second
 
-pub returns-in-err-cancel-numbers : goal.returns-in-err-cancel-numbers
-returns-in-err-cancel-numbers g c =
+pub returns-in_err-cancel_numbers : goal.returns-in_err-cancel_numbers
+returns-in_err-cancel_numbers g c =
     let r = c.args.self.now in
     let f = fixed g.K.Coding g.V.Coding g.P.Permutation g.A.Table g.B.Table r in
     let n = c.args.n in
-    let run = c.in-ok-numbers.numbers in
-    let good = read_ok f c.args.key n c.args.value c.read-run.result run c.read-run.ensures c.in-ok-numbers.was in
+    let run = c.in_ok-numbers.numbers in
+    let good = read_ok f c.args.key n c.args.value c.read_run.result run c.read_run.ensures c.in_ok-numbers.was in
     record {
-      same = c.cancel-numbers.ensures.same;
-      step = run_refused r c.in-use.result c.in-Ok.used c.in-Ok.is c.in-use.ensures c.cancel-numbers.new.self (Cancel c.args.key n c.args.value) n c.cancel-numbers.result
+      same = c.cancel_numbers.ensures.same;
+      step = run_refused r c.in_use.result c.in-Ok.used c.in-Ok.is c.in_use.ensures c.cancel_numbers.new.self (Cancel c.args.key n c.args.value) n c.cancel_numbers.result
           (λ t. without_run run.m n t.list) (λ t. cancel_refusal t.list run.m run.w 0 n)
           (λ t. ap (answer f (opened t)) (read_good f to_cancel c.args.key n c.args.value run good))
-          (λ t st chosen. c.cancel-numbers.ensures.ends t st chosen (reached f (law g r) c.args.key n c.args.value run good))
-          c.in-err-cancel-numbers.field-0.0 c.in-err-cancel-numbers.was c.from-residual-in-err-cancel-numbers.result
-          (passed_on c.from-residual-in-err-cancel-numbers.result c.in-err-cancel-numbers.field-0.0 c.from-residual-in-err-cancel-numbers.ensures.1);
+          (λ t st chosen. c.cancel_numbers.ensures.ends t st chosen (reached f (law g r) c.args.key n c.args.value run good))
+          c.in_err-cancel_numbers.field-0.0 c.in_err-cancel_numbers.was c.from_residual-in_err-cancel_numbers.result
+          (passed_on c.from_residual-in_err-cancel_numbers.result c.in_err-cancel_numbers.field-0.0 c.from_residual-in_err-cancel_numbers.ensures.1);
     }
 
 pub returns : goal.returns
@@ -47,16 +47,16 @@ returns g c =
     let r = c.args.self.now in
     let f = fixed g.K.Coding g.V.Coding g.P.Permutation g.A.Table g.B.Table r in
     let n = c.args.n in
-    let run = c.in-ok-numbers.numbers in
-    let good = read_ok f c.args.key n c.args.value c.read-run.result run c.read-run.ensures c.in-ok-numbers.was in
+    let run = c.in_ok-numbers.numbers in
+    let good = read_ok f c.args.key n c.args.value c.read_run.result run c.read_run.ensures c.in_ok-numbers.was in
     record {
-      same = same_but c.cancel-numbers.ensures.same c.cancel-numbers.new.self.opened c.saturating-sub-self.result;
-      step = run_done r c.in-use.result c.in-Ok.used c.in-Ok.is c.in-use.ensures c.cancel-numbers.new.self (Cancel c.args.key n c.args.value) n c.cancel-numbers.result
+      same = same_but c.cancel_numbers.ensures.same c.cancel_numbers.new.self.opened c.saturating_sub-self.result;
+      step = run_done r c.in_use.result c.in-Ok.used c.in-Ok.is c.in_use.ensures c.cancel_numbers.new.self (Cancel c.args.key n c.args.value) n c.cancel_numbers.result
           (λ t. without_run run.m n t.list) (λ t. cancel_refusal t.list run.m run.w 0 n)
           (λ t. ap (answer f (opened t)) (read_good f to_cancel c.args.key n c.args.value run good))
-          (λ t st chosen. c.cancel-numbers.ensures.ends t st chosen (reached f (law g r) c.args.key n c.args.value run good))
-          c.saturating-sub-self.result c.in-ok-cancel-numbers.was
-          (λ t st clear kept after. less_counted t.list run.m run.w n f.keys.width (g.K.Coding.width c.cancel-numbers.new.self.keys) c.cancel-numbers.new.self.count c.saturating-sub-self.result
-          (ap (λ x. x.keys.width) c.cancel-numbers.ensures.same.parts) (kept ∙ st.count) c.saturating-sub-self.ensures clear
+          (λ t st chosen. c.cancel_numbers.ensures.ends t st chosen (reached f (law g r) c.args.key n c.args.value run good))
+          c.saturating_sub-self.result c.in_ok-cancel_numbers.was
+          (λ t st clear kept after. less_counted t.list run.m run.w n f.keys.width (g.K.Coding.width c.cancel_numbers.new.self.keys) c.cancel_numbers.new.self.count c.saturating_sub-self.result
+          (ap (λ x. x.keys.width) c.cancel_numbers.ensures.same.parts) (kept ∙ st.count) c.saturating_sub-self.ensures clear
           (keys_end f (law g r) c.args.key n c.args.value run good) st.listed.apart st.listed.below after.listed.apart after.listed.below);
     }

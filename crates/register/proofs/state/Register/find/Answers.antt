@@ -4,25 +4,25 @@ use Rattle.register.proofs.Ends.{passed_on}
 use Rattle.register.proofs.Finding.{find_absent, find_found, find_known}
 use Rattle.register.proofs.state.Register.find.Goals as goal
 
-pub returns-in-err-w : goal.returns-in-err-w
-returns-in-err-w g c =
+pub returns-in_err-w : goal.returns-in_err-w
+returns-in_err-w g c =
     let r = c.args.self.now in
     let km = sym c.number.ensures.value ∙ c.in-Some.is in
     record {
       same = refl;
-      step = find_absent r c.in-use.result c.in-ok-used.used c.in-ok-used.was c.in-use.ensures c.args.key c.in-Some.m km (g.met.K.Coding.below r.keys c.args.key c.in-Some.m km)
-          c.value-number.result c.value-number.ensures c.in-err-w.field-0.0 c.in-err-w.was c.from-residual-in-err-w.result
-          (passed_on c.from-residual-in-err-w.result (Table c.in-err-w.field-0.0) c.from-residual-in-err-w.ensures.1);
+      step = find_absent r c.in_use.result c.in_ok-used.used c.in_ok-used.was c.in_use.ensures c.args.key c.in-Some.m km (g.met.K.Coding.below r.keys c.args.key c.in-Some.m km)
+          c.value_number.result c.value_number.ensures c.in_err-w.field-0.0 c.in_err-w.was c.from_residual-in_err-w.result
+          (passed_on c.from_residual-in_err-w.result (Table c.in_err-w.field-0.0) c.from_residual-in_err-w.ensures.1);
     }
 
-pub returns-in-default-item : goal.returns-in-default-item
-returns-in-default-item g c =
+pub returns-in_default-item : goal.returns-in_default-item
+returns-in_default-item g c =
     let r = c.args.self.now in
     let km = sym c.number.ensures.value ∙ c.in-Some.is in
     record {
       same = refl;
-      step = find_known r c.in-use.result c.in-ok-used.used c.in-ok-used.was c.in-use.ensures c.args.key c.in-Some.m km (g.met.K.Coding.below r.keys c.args.key c.in-Some.m km)
-          c.value-number.result c.value-number.ensures c.in-ok-w.w c.in-ok-w.was (g.met.V.Coding.back r.values) (sym c.item.ensures.value ∙ c.in-default-item.is) Unreached;
+      step = find_known r c.in_use.result c.in_ok-used.used c.in_ok-used.was c.in_use.ensures c.args.key c.in-Some.m km (g.met.K.Coding.below r.keys c.args.key c.in-Some.m km)
+          c.value_number.result c.value_number.ensures c.in_ok-w.w c.in_ok-w.was (g.met.V.Coding.back r.values) (sym c.item.ensures.value ∙ c.in_default-item.is) Unreached;
     }
 
 pub returns : goal.returns
@@ -31,7 +31,7 @@ returns g c =
     let km = sym c.number.ensures.value ∙ c.in-Some.is in
     record {
       same = refl;
-      step = find_found r c.in-use.result c.in-ok-used.used c.in-ok-used.was c.in-use.ensures c.args.key c.in-Some.m km (g.met.K.Coding.below r.keys c.args.key c.in-Some.m km)
-          c.value-number.result c.value-number.ensures c.in-ok-w.w c.in-ok-w.was c.in-Some-item.value
-          (g.met.V.Coding.forth r.values c.in-Some-item.value c.in-ok-w.w (sym c.item.ensures.value ∙ c.in-Some-item.is));
+      step = find_found r c.in_use.result c.in_ok-used.used c.in_ok-used.was c.in_use.ensures c.args.key c.in-Some.m km (g.met.K.Coding.below r.keys c.args.key c.in-Some.m km)
+          c.value_number.result c.value_number.ensures c.in_ok-w.w c.in_ok-w.was c.in-Some-item.value
+          (g.met.V.Coding.forth r.values c.in-Some-item.value c.in_ok-w.w (sym c.item.ensures.value ∙ c.in-Some-item.is));
     }

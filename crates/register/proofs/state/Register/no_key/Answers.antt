@@ -8,7 +8,7 @@ loop-i-init g c = keyed_none (fixed g.K.Coding g.V.Coding g.P.Permutation g.A.Ta
 
 pub loop-i-preserved : goal.loop-i-preserved
 loop-i-preserved g c = keyed_more (fixed g.K.Coding g.V.Coding g.P.Permutation g.A.Table g.B.Table c.args.self.now) c.args.m c.args.n c.loop-i.i c.loop-i-test.true c.loop-i.invariant
-    c.in-default.field-0 (sym c.item.ensures.value ∙ c.in-default.is)
+    c.in_default.field-0 (sym c.item.ensures.value ∙ c.in_default.is)
 
 pub returns-in-None : goal.returns-in-None
 returns-in-None g c = keyed_stop (fixed g.K.Coding g.V.Coding g.P.Permutation g.A.Table g.B.Table c.args.self.now) c.args.m c.args.n c.loop-i.i c.loop-i-test.true c.loop-i.invariant

@@ -25,21 +25,21 @@ law g r =
     (lawful_kind g.B.Table g.met.B.Table.grouped g.met.B.Table.limited g.met.B.Table.fitting)
     r.keys r.values r.permutation r.first r.second
 
-pub returns-in-err-take-numbers : goal.returns-in-err-take-numbers
-returns-in-err-take-numbers g c =
+pub returns-in_err-take_numbers : goal.returns-in_err-take_numbers
+returns-in_err-take_numbers g c =
     let r = c.args.self.now in
     let f = fixed g.K.Coding g.V.Coding g.P.Permutation g.A.Table g.B.Table r in
     let n = c.args.n in
-    let run = c.in-ok-numbers.numbers in
-    let good = read_ok f c.args.key n c.args.value c.read-run.result run c.read-run.ensures c.in-ok-numbers.was in
+    let run = c.in_ok-numbers.numbers in
+    let good = read_ok f c.args.key n c.args.value c.read_run.result run c.read_run.ensures c.in_ok-numbers.was in
     record {
-      same = c.take-numbers.ensures.same;
-      step = run_refused r c.in-use.result c.in-Ok.used c.in-Ok.is c.in-use.ensures c.take-numbers.new.self (Take c.args.key n c.args.value) n c.take-numbers.result
+      same = c.take_numbers.ensures.same;
+      step = run_refused r c.in_use.result c.in-Ok.used c.in-Ok.is c.in_use.ensures c.take_numbers.new.self (Take c.args.key n c.args.value) n c.take_numbers.result
           (λ t. t.list ++ run_of run.m run.w n) (λ t. take_judged f t run.m n run.w)
           (λ t. ap (answer f (opened t)) (read_good f to_take c.args.key n c.args.value run good))
-          (λ t st chosen. c.take-numbers.ensures.ends t st chosen (reached f (law g r) c.args.key n c.args.value run good))
-          c.in-err-take-numbers.field-0.0 c.in-err-take-numbers.was c.from-residual-in-err-take-numbers.result
-          (passed_on c.from-residual-in-err-take-numbers.result c.in-err-take-numbers.field-0.0 c.from-residual-in-err-take-numbers.ensures.1);
+          (λ t st chosen. c.take_numbers.ensures.ends t st chosen (reached f (law g r) c.args.key n c.args.value run good))
+          c.in_err-take_numbers.field-0.0 c.in_err-take_numbers.was c.from_residual-in_err-take_numbers.result
+          (passed_on c.from_residual-in_err-take_numbers.result c.in_err-take_numbers.field-0.0 c.from_residual-in_err-take_numbers.ensures.1);
     }
 
 pub returns : goal.returns
@@ -47,15 +47,15 @@ returns g c =
     let r = c.args.self.now in
     let f = fixed g.K.Coding g.V.Coding g.P.Permutation g.A.Table g.B.Table r in
     let n = c.args.n in
-    let run = c.in-ok-numbers.numbers in
-    let good = read_ok f c.args.key n c.args.value c.read-run.result run c.read-run.ensures c.in-ok-numbers.was in
+    let run = c.in_ok-numbers.numbers in
+    let good = read_ok f c.args.key n c.args.value c.read_run.result run c.read_run.ensures c.in_ok-numbers.was in
     record {
-      same = same_but c.take-numbers.ensures.same c.take-numbers.new.self.opened c.saturating-add-self.result;
-      step = run_done r c.in-use.result c.in-Ok.used c.in-Ok.is c.in-use.ensures c.take-numbers.new.self (Take c.args.key n c.args.value) n c.take-numbers.result
+      same = same_but c.take_numbers.ensures.same c.take_numbers.new.self.opened c.saturating_add-self.result;
+      step = run_done r c.in_use.result c.in-Ok.used c.in-Ok.is c.in_use.ensures c.take_numbers.new.self (Take c.args.key n c.args.value) n c.take_numbers.result
           (λ t. t.list ++ run_of run.m run.w n) (λ t. take_judged f t run.m n run.w)
           (λ t. ap (answer f (opened t)) (read_good f to_take c.args.key n c.args.value run good))
-          (λ t st chosen. c.take-numbers.ensures.ends t st chosen (reached f (law g r) c.args.key n c.args.value run good))
-          c.saturating-add-self.result c.in-ok-take-numbers.was
-          (λ t st clear kept after. more_counted t.list run.m run.w n (g.K.Coding.width c.take-numbers.new.self.keys) c.take-numbers.new.self.count c.saturating-add-self.result (kept ∙ st.count) c.saturating-add-self.ensures
-          (g.met.K.Coding.narrow c.take-numbers.new.self.keys) after.listed.apart after.listed.below);
+          (λ t st chosen. c.take_numbers.ensures.ends t st chosen (reached f (law g r) c.args.key n c.args.value run good))
+          c.saturating_add-self.result c.in_ok-take_numbers.was
+          (λ t st clear kept after. more_counted t.list run.m run.w n (g.K.Coding.width c.take_numbers.new.self.keys) c.take_numbers.new.self.count c.saturating_add-self.result (kept ∙ st.count) c.saturating_add-self.ensures
+          (g.met.K.Coding.narrow c.take_numbers.new.self.keys) after.listed.apart after.listed.below);
     }
