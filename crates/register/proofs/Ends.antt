@@ -16,14 +16,13 @@ use Rattle.model.specs.Entries.{Entries}
 use Rattle.model.specs.History.{accepted}
 use Rattle.model.specs.Laws.{Lawful}
 use Rattle.model.specs.Model.{Fixed, Model, Reply, State, answered, closed, declined, opened, other}
-use Rattle.model.specs.Step.{Asked, enlarge_fit, enlarge_room, larger_fits, no_key, read_key, read_keys, read_run, read_value, room_judged, run_end, run_length, step}
+use Rattle.model.specs.Step.{Asked, enlarge_fit, enlarge_room, larger_fits, read_key, read_keys, read_run, read_value, room_judged, run_end, run_length, step}
 use Rattle.model.proofs.Reading.{keys_fit}
 use Rattle.dictionary.specs.Results.{moved, reply}
 use Rattle.register.specs.declared.side.Side as sides
 use Rattle.register.specs.declared.side.Side.TheVariants.{First, Second}
 use Rattle.register.specs.declared.in_use.InUse.{InUse}
 use Rattle.register.specs.declared.run_numbers.RunNumbers.{RunNumbers}
-use Rattle.register.specs.declared.state.Opened.{Opened}
 use Rattle.register.specs.declared.state.Register.{Register}
 use Rattle.register.specs.Fixed.{fixed}
 use Rattle.register.specs.Stands.{Stands, side_of}

@@ -7,13 +7,12 @@ use Rattle.table.specs.declared.table.Table as table
 use Rattle.table.specs.declared.refusal.TableRefusal.{TableRefusal}
 use Rattle.table.specs.declared.refusal.TableRefusal.TheVariants.{Absent}
 use Rattle.table.specs.Meaning.{answer_of, value_in}
-use Rattle.model.specs.declared.answer.Answer.{Answer}
 use Rattle.model.specs.declared.answer.Answer.TheVariants.{Refused, Value}
 use Rattle.model.specs.declared.call.Call.TheVariants.{Find}
 use Rattle.model.specs.declared.refusal.Refusal.{Refusal}
 use Rattle.model.specs.declared.refusal.Refusal.TheVariants.{Table}
 use Rattle.model.specs.Entries.{Entries}
-use Rattle.model.specs.Model.{Fixed, Model, Reply, State, declined, found, opened}
+use Rattle.model.specs.Model.{Model, Reply, State, declined, opened}
 use Rattle.model.specs.Replies.{found_as}
 use Rattle.model.specs.Step.{answer, find_reply, read_find, step}
 use Rattle.register.specs.declared.in_use.InUse.{InUse}

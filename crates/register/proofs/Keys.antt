@@ -1,5 +1,5 @@
 -- The first place of a run whose number is no key's, turn by turn.
-use Rattle.std.proofs.Common.{◌≡◌, ℕ, suc, ◌+◌, ◌-◌, ◌<◌, Some, None, Option, sym, ap, ◌∙◌, subst, arith}
+use Rattle.std.proofs.Common.{◌≡◌, ℕ, suc, ◌+◌, ◌-◌, ◌<◌, Some, None, sym, ap, ◌∙◌, subst, arith}
 use Rattle.model.specs.Model.{Fixed}
 use Rattle.model.specs.Step.{no_key, no_key_next}
 

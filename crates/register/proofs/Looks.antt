@@ -1,5 +1,5 @@
 -- What is looked up in the table in use.
-use Rattle.std.proofs.Common.{◌≡◌, ℕ, ◌^◌, ◌<◌, ltb, sym, ap, ◌∙◌}
+use Rattle.std.proofs.Common.{◌≡◌, ℕ, ◌^◌, ◌<◌, ap, ◌∙◌}
 use Rattle.std.proofs.lemmas.Bool.{lt-ltb}
 use Rattle.table.specs.Meaning.{answer_of, value_in}
 use Rattle.model.specs.Entries.{Entries}

@@ -1,5 +1,5 @@
 -- An enlargement: from the table in use into the other.
-use Rattle.std.proofs.Common.{◌≡◌, ℕ, ◌+◌, Bool, length, Some, Ok, Err, Result, sym, refl, ap, ◌∙◌, subst}
+use Rattle.std.proofs.Common.{◌≡◌, ℕ, ◌+◌, Ok, Err, Result, sym, ap, ◌∙◌}
 use Rattle.coding.specs.declared.Coding as coding
 use Rattle.permutation.specs.declared.Permutation as permutation
 use Rattle.table.specs.declared.table.Table as table

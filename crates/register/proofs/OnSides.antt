@@ -1,11 +1,11 @@
 -- A register on one side, from the table in use and to it.
-use Rattle.std.proofs.Common.{◌≡◌, ℕ, ◌+◌, ◌^◌, [], length, Some, None, Option, sym, refl, ap, ◌∙◌, subst}
+use Rattle.std.proofs.Common.{◌≡◌, ℕ, length, Some, None, Option, sym, ap, ◌∙◌, subst}
 use Rattle.coding.specs.declared.Coding as coding
 use Rattle.permutation.specs.declared.Permutation as permutation
 use Rattle.table.specs.declared.table.Table as table
 use Rattle.table.specs.Meaning.{unformed}
 use Rattle.model.specs.Entries.{Entries}
-use Rattle.model.specs.Model.{Mixing, Model, Side, State, in_use, on_first, on_second, on_side, opened, other}
+use Rattle.model.specs.Model.{Mixing, State, in_use, on_first, on_second, on_side, opened}
 use Rattle.dictionary.specs.Stored.{Stores, mixing}
 use Rattle.register.specs.declared.side.Side.TheVariants.{First, Second}
 use Rattle.register.specs.declared.in_use.InUse.{InUse}
@@ -13,7 +13,7 @@ use Rattle.register.specs.declared.state.Opened.{Opened}
 use Rattle.register.specs.declared.state.Register.{Register}
 use Rattle.register.specs.Fixed.{fixed}
 use Rattle.register.specs.Stands.{Entered, Means, Same, Stands, Uses, side_of}
-use Rattle.register.specs.Numbers.{Chosen, counted, relisted}
+use Rattle.register.specs.Numbers.{Chosen, relisted}
 
 -- a register with another first table
 abbrev pub with_first : {K V P A B T U : Type 0} → Register K V P A B T U → A → Register K V P A B T U

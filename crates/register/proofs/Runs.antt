@@ -1,5 +1,5 @@
 -- A run of key numbers, taken into or cancelled from the table in use.
-use Rattle.std.proofs.Common.{◌≡◌, ℕ, zero, suc, not, ◌++◌, length, Some, None, Ok, Err, Option, Result, sym, refl, ap, ◌∙◌, subst}
+use Rattle.std.proofs.Common.{◌≡◌, ℕ, zero, suc, not, ◌++◌, length, Err, Option, Result, sym, refl, ap, ◌∙◌, subst}
 use Rattle.std.proofs.ByRecursion.{All-append, all_kept_by}
 use Rattle.std.specs.List.{AllByRecursion as All}
 use Rattle.coding.specs.declared.Coding as coding

@@ -1,5 +1,5 @@
 -- Looking for the table in use.
-use Rattle.std.proofs.Common.{◌≡◌, ℕ, ◌^◌, ◌<◌, ◌≤◌, Bool, true, List, Some, None, Ok, Err, Option, Result, sym, refl, ap, ◌∙◌, subst, arith}
+use Rattle.std.proofs.Common.{◌≡◌, ℕ, ◌<◌, ◌≤◌, true, List, Some, None, Ok, Option, Result, sym, refl, ap, ◌∙◌, subst, arith}
 use Rattle.std.proofs.lemmas.Bool.{le-leb, lt-ltb}
 use Rattle.coding.specs.declared.Coding as coding
 use Rattle.permutation.specs.declared.Permutation as permutation
@@ -13,7 +13,7 @@ use Rattle.register.specs.declared.in_use.InUse.{InUse}
 use Rattle.register.specs.declared.state.Opened.{Opened}
 use Rattle.register.specs.declared.state.Register.{Register}
 use Rattle.register.specs.Stands.{Stands, Uses, side_of}
-use Rattle.register.specs.Numbers.{Chosen, Finds}
+use Rattle.register.specs.Numbers.{Finds}
 use Rattle.register.proofs.OnSides.{first_stored, second_stored}
 
 -- the widths of a table in use are within the bounds of every table

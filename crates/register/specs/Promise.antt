@@ -6,7 +6,7 @@
 --   Counted          counts
 --   Promise          the whole promise about a register, a list of calls and the answers given
 --   Continues        the promise with one more call
-use Rattle.std.specs.Prelude.{◌≡◌, ℕ, suc, ◌+◌, Bool, true, false, List, [], ◌∷◌, ◌++◌, map, Some, Option}
+use Rattle.std.specs.Prelude.{◌≡◌, ℕ, suc, ◌+◌, Bool, true, false, List, [], ◌∷◌, ◌++◌, map, Some}
 use Rattle.std.specs.List.{slice_get}
 use Rattle.coding.specs.declared.Coding as coding
 use Rattle.permutation.specs.declared.Permutation as permutation

@@ -1,7 +1,5 @@
 use Rattle.std.proofs.Common.{refl, ap}
 use Rattle.model.specs.Entries.{without_run}
-use Rattle.model.specs.Model.{on_first, on_second}
-use Rattle.register.specs.Fixed.{fixed}
 use Rattle.register.proofs.OnSides.{chose_first, chose_second, first_stored, same_both, second_stored, with_first, with_second}
 use Rattle.register.proofs.Runs.{cancel_ends, first_relisted, second_relisted}
 use Rattle.register.proofs.state.Register.cancel_numbers.Goals as goal

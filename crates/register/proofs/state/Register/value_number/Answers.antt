@@ -1,5 +1,4 @@
-use Rattle.std.proofs.Common.{◌≡◌, sym, ap, ◌∙◌}
-use Rattle.dictionary.specs.Results.{looked_up}
+use Rattle.std.proofs.Common.{◌∙◌}
 use Rattle.register.proofs.OnSides.{chose_first, chose_second, first_stored, second_stored, stores_at}
 use Rattle.register.proofs.Looks.{looked_below}
 use Rattle.register.proofs.state.Register.value_number.Goals as goal
