@@ -3,6 +3,7 @@
 #![tactic(auto)]
 
 use anyhow::anyhow;
+use std::process::ExitCode;
 use std::{fs, io};
 
 mod options;
@@ -74,7 +75,7 @@ fn enter<T: Table + Drop>(
     );
     match opening(&answers) {
         Ok(b) => println!(rt; "night register open: {layout} tables, 2^{b} slots")?,
-        Err(why) => return Err(refusal_text(why).into()),
+        Err(why) => return Err(anyhow!("{}", refusal_text(why))),
     }
     report_list(rt, list, &answers, register.count())?;
     Ok(())
@@ -100,10 +101,13 @@ fn run(rt: &HostRuntime) -> anyhow::Result<()> {
     }
 }
 
-fn main(rt: HostRuntime) -> anyhow::Result<()> {
-    let done = run(&rt);
-    if let Err(fault) = &done {
-        eprintln!(rt; "desk: {fault}")?;
+fn main(rt: HostRuntime) -> ExitCode {
+    match run(&rt) {
+        Ok(()) => ExitCode::SUCCESS,
+        Err(fault) => {
+            // Where standard error cannot be written, the status is all that is left to say.
+            let _ = eprintln!(rt; "desk: {fault}");
+            ExitCode::FAILURE
+        }
     }
-    done
 }

@@ -3,6 +3,7 @@
 #![tactic(auto)]
 
 use anyhow::anyhow;
+use std::process::ExitCode;
 use std::{fs, io};
 
 mod options;
@@ -76,10 +77,13 @@ fn run(rt: &HostRuntime) -> anyhow::Result<()> {
     }
 }
 
-fn main(rt: HostRuntime) -> anyhow::Result<()> {
-    let done = run(&rt);
-    if let Err(fault) = &done {
-        eprintln!(rt; "reception: {fault}")?;
+fn main(rt: HostRuntime) -> ExitCode {
+    match run(&rt) {
+        Ok(()) => ExitCode::SUCCESS,
+        Err(fault) => {
+            // Where standard error cannot be written, the status is all that is left to say.
+            let _ = eprintln!(rt; "reception: {fault}");
+            ExitCode::FAILURE
+        }
     }
-    done
 }
