@@ -5,7 +5,7 @@
 --   Stores                 a sound table that means it, with keys below 2^k and apart
 --   in_slot, range_load    the entries of one slot; how many there are in some slots
 use Rattle.std.specs.Prelude.{◌≡◌, ℕ, ◌+◌, ◌^◌, ◌<◌, ◌&&◌, filter, nat_eq, nat_le, nat_lt}
-use Rattle.std.specs.List.{AllByRecursion as All}
+use Rattle.std.specs.List.{AllByRecursion}
 use Rattle.permutation.specs.declared.Permutation as permutation
 use Rattle.table.specs.declared.table.Table as table
 use Rattle.table.specs.Slots.{slot, quotient}
@@ -34,7 +34,7 @@ mixing pm p = record { width = pm.width p; forth = pm.forth p; back = pm.back p 
 pub record Stores {T : Type 0} (ta : table.Ghosts T) (mix : Mixing) (t : T) (k v b : ℕ) (l : Entries) : Type 0 where
   pub sound : ta.sound t
   pub means : ta.means t ≡ stored mix.forth k v b l
-  pub below : All (λ e. e.0 < 2 ^ k) l
+  pub below : AllByRecursion (λ e. e.0 < 2 ^ k) l
   pub apart : Apart l
   pub widths : mix.width ≡ k
 

@@ -10,7 +10,7 @@
 --   answers_four, full_take        a take that was answered with 4
 --   history                        the history of a list of calls put to a closed machine
 use Rattle.std.specs.Prelude.{◌≡◌, ℕ, zero, suc, ◌+◌, ◌^◌, Bool, true, false, cond, not, ◌&&◌, ◌||◌, List, [], ◌∷◌, ◌++◌, Some, None, Option, ◌==◌, nat_eq}
-use Rattle.std.specs.List.{AllByRecursion as All}
+use Rattle.std.specs.List.{AllByRecursion}
 use Rattle.model.specs.declared.call.Call.{Call}
 use Rattle.model.specs.declared.call.Call.TheVariants.{Open, Take, Cancel, Find, Count, At, Enlarge}
 use Rattle.model.specs.Entries.{within_run}
@@ -117,7 +117,7 @@ module _ {K V : Type 0} (f : Fixed K V) where
     pub done : accepted reply ≡ true
     pub covered : from_key (f.keys.number key) n x ≡ true
     pub valued : f.values.number value ≡ Some w
-    pub last : All (λ e. touches e x ≡ false) after
+    pub last : AllByRecursion (λ e. touches e x ≡ false) after
 
   -- how many key numbers are held under a value number that passes a test
   abbrev pub held_if : (ℕ → Bool) → History K V → ℕ

@@ -9,7 +9,7 @@
 --   half_list, Moves, Enlarged, AlwaysMoved   what an enlargement does in the tables
 --   Fair, AlwaysFair                 what makes the machine a fair judge
 use Rattle.std.specs.Prelude.{◌≡◌, ℕ, suc, ◌+◌, ◌-◌, ◌*◌, ◌/◌, ◌%◌, ◌^◌, ◌<◌, ◌≤◌, Bool, true, false, cond, List, [], ◌∷◌, ◌++◌, length, get_or, Some, None, ◌==◌, nat_eq, slice_index_or}
-use Rattle.std.specs.List.{ContainsAt as Has, AllByRecursion as All, slice_get}
+use Rattle.std.specs.List.{ContainsAt, AllByRecursion, slice_get}
 use Rattle.table.specs.Slots.{within}
 use Rattle.table.specs.Meaning.{Meaning, unformed, formed, value_in, load, Fit, WellFormed}
 use Rattle.model.specs.declared.call.Call.{Call}
@@ -97,22 +97,22 @@ module _ {K V : Type 0} (f : Fixed K V) where
     pub long : length l ≡ held_count f before
     pub counted : length l ≡ length (entries (run f closed (calls_of before)).0)
     pub apart : Apart l
-    pub only_held : (m w : ℕ) → Has l (m, w) → held f before m ≡ Some w
-    pub all_held : (m w : ℕ) → held f before m ≡ Some w → Has l (m, w)
-    pub answers : (i : ℕ) (r : Reply) → Has middle (At i, r) → i < length l → r ≡ listed (get_or l i (0, 0)).0 (get_or l i (0, 0)).1
-    pub no_others : (i : ℕ) (r : Reply) → Has middle (At i, r) → length l ≤ i → accepted r ≡ false
-    pub counts : (r : Reply) → Has middle (Count, r) → r ≡ answered (length l)
+    pub only_held : (m w : ℕ) → ContainsAt l (m, w) → held f before m ≡ Some w
+    pub all_held : (m w : ℕ) → held f before m ≡ Some w → ContainsAt l (m, w)
+    pub answers : (i : ℕ) (r : Reply) → ContainsAt middle (At i, r) → i < length l → r ≡ listed (get_or l i (0, 0)).0 (get_or l i (0, 0)).1
+    pub no_others : (i : ℕ) (r : Reply) → ContainsAt middle (At i, r) → length l ≤ i → accepted r ≡ false
+    pub counts : (r : Reply) → ContainsAt middle (Count, r) → r ≡ answered (length l)
 
   -- the answers are exactly the pairs held after `before`, each once
   pub record Walked (before middle : History K V) : Type 0 where
-    pub none_else : (i m w : ℕ) → Has middle (At i, listed m w) → held f before m ≡ Some w
-    pub none_left : (m w : ℕ) → held f before m ≡ Some w → (i : ℕ) × Has middle (At i, listed m w)
-    pub once : (i j m w u : ℕ) → Has middle (At i, listed m w) → Has middle (At j, listed m u) → i ≡ j
+    pub none_else : (i m w : ℕ) → ContainsAt middle (At i, listed m w) → held f before m ≡ Some w
+    pub none_left : (m w : ℕ) → held f before m ≡ Some w → (i : ℕ) × ContainsAt middle (At i, listed m w)
+    pub once : (i j m w u : ℕ) → ContainsAt middle (At i, listed m w) → ContainsAt middle (At j, listed m u) → i ≡ j
 
   -- the list, and its consequence where at was put for every place below the count
   pub record Listing (before middle : History K V) : Type 0 where
     pub lists : (l : Entries) × Lists before middle l
-    pub walked : ((i : ℕ) → i < held_count f before → (r : Reply) × Has middle (At i, r)) → Walked before middle
+    pub walked : ((i : ℕ) → i < held_count f before → (r : Reply) × ContainsAt middle (At i, r)) → Walked before middle
 
   -- ---- counts
 
@@ -157,10 +157,10 @@ module _ {K V : Type 0} (f : Fixed K V) where
   -- what makes the machine a fair judge, after any calls
   pub record Fair (calls : List (Call K V)) : Type 0 where
     pub apart : Apart (entries (run f closed calls).0)
-    pub below : All (λ e. e.0 < 2 ^ f.keys.width) (entries (run f closed calls).0)
+    pub below : AllByRecursion (λ e. e.0 < 2 ^ f.keys.width) (entries (run f closed calls).0)
     pub tells : (m : ℕ) → held f (history f calls) m ≡ value_in (entries (run f closed calls).0) m
     pub joined : (b m : ℕ) → slot_of f b m * 2 ^ (f.keys.width - b) + quotient_of f b m ≡ f.mix.forth m
-    pub returns : All (λ e. f.mix.back (f.mix.forth e.0) ≡ e.0) (entries (run f closed calls).0)
+    pub returns : AllByRecursion (λ e. f.mix.back (f.mix.forth e.0) ≡ e.0) (entries (run f closed calls).0)
     pub used : InUse (run f closed calls).0
     pub leaves : (c : Call K V) → accepted (step f (run f closed calls).0 c).1 ≡ false → (step f (run f closed calls).0 c).0 ≡ (run f closed calls).0
     pub again : (key : K) (n : ℕ) (value : V) → accepted (step f (run f closed calls).0 (Cancel key n value)).1 ≡ true

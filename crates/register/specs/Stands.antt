@@ -7,7 +7,7 @@
 --   MadeOf         a register of five parts: what is fixed, and the numbers of words, are those of the parts
 --   Same           two states of one register: what is fixed, and the numbers of words, are the same
 use Rattle.std.specs.Prelude.{◌≡◌, ℕ, ◌^◌, ◌<◌, length, Some, None, Option}
-use Rattle.std.specs.List.{AllByRecursion as All}
+use Rattle.std.specs.List.{AllByRecursion}
 use Rattle.coding.specs.declared.Coding as coding
 use Rattle.permutation.specs.declared.Permutation as permutation
 use Rattle.table.specs.declared.table.Table as table
@@ -44,9 +44,9 @@ HasItem {K} {V} f w = (item : V) × (f.values.number item ≡ Some w)
 -- what the list of an open machine keeps
 pub record Entered {K V : Type 0} (f : Fixed K V) (t : State) : Type 0 where
   pub widths : f.mix.width ≡ f.keys.width
-  pub below : All (λ e. e.0 < 2 ^ f.keys.width) t.list
+  pub below : AllByRecursion (λ e. e.0 < 2 ^ f.keys.width) t.list
   pub apart : Apart t.list
-  pub known : All (λ e. HasItem f e.1) t.list
+  pub known : AllByRecursion (λ e. HasItem f e.1) t.list
 
 -- the same of a machine; a closed one has no list
 abbrev pub Listed : {K V : Type 0} → Fixed K V → Model → Type 0
