@@ -1,12 +1,12 @@
 //! Reading a line: its words, the numbers that they write, and the stay that four numbers make.
 ghost use Rattle.std.specs.Prelude.{◌≡◌, ◌≤◌, length};
-ghost use Rattle.arrivals.specs.Lines.{is_blank as blank-byte, run_length, skipped, word, after, nth_word, digit_after, decimal, field_of, stay_of};
+ghost use Rattle.arrivals.specs.Lines.{is_blank as blank_byte, run_length, skipped, word, after, nth_word, digit_after, decimal, field_of, stay_of};
 
 use crate::stay::{Field, LineFault, Stay};
 
 /// Whether a byte parts words: a space, a tab or a carriage return.
 fn is_blank(byte: u8) -> bool
-    ensures value { result ≡ blank-byte byte }
+    ensures value { result ≡ blank_byte byte }
 {
     byte == b' ' || byte == b'\t' || byte == b'\r'
 }

@@ -1,8 +1,8 @@
 -- The laws of areas, fields and marks: what a caller may use of the words in Area and Marks.
 --   Below b xs             each of xs is below b
---   AreaLaws              areas of n words and numbers of 64 × n bits are the same thing
---   FieldLaws             packing and reading back are inverse; what writing, inserting and removing do to the list of fields
---   MarkLaws              sizes and their marks are read from each other; what the bits of each slot are; which numbers are marks
+--   AreaLaws               areas of n words and numbers of 64 × n bits are the same thing
+--   FieldLaws              packing and reading back are inverse; what writing, inserting and removing do to the list of fields
+--   MarkLaws               sizes and their marks are read from each other; what the bits of each slot are; which numbers are marks
 use Rattle.std.specs.Prelude.{◌≡◌, ℕ, ◌+◌, ◌-◌, ◌*◌, ◌/◌, ◌%◌, ◌^◌, ◌<◌, ◌≤◌, List, [], ◌∷◌, ◌++◌, length, take, sum, count_ones, slice_index, slice_set}
 use Rattle.std.specs.List.{insert, remove}
 use Rattle.bits.specs.Area.{number, words_of, bits, wide, field, fields, packed, field_written, field_inserted, field_removed}

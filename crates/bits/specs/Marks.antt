@@ -8,7 +8,7 @@
 --   size_of j m            how many entries slot j has
 --   ends j m               where they end: the place of its zero
 --   one_more j m           m with one entry more in slot j
---   one-less j m           m with one entry less in slot j
+--   one_less j m           m with one entry less in slot j
 --   Marked n c m           m is the marks of n sizes of at most c in all
 use Rattle.std.specs.Prelude.{◌≡◌, ℕ, zero, suc, ◌+◌, ◌-◌, ◌*◌, ◌/◌, ◌%◌, ◌^◌, ◌≤◌, cond, List, [], ◌∷◌, length, sum, ◌==◌}
 use Rattle.std.specs.Int.Count.{count_trailing_zeros}

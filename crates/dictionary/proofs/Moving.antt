@@ -98,7 +98,7 @@ module _ {A : Type 0} {ta : table.Ghosts A}
       (to : Stores tb mi u k v (b + 1) (take (length (walk (slot_of mi.forth k b) s l) + i) (walk (slot_of mi.forth k b) (2 ^ b) l)))
       {y w ps pq : ℕ}
       (is : ◌≡◌ {A = Option (ℕ × ℕ)} (Some (y, w)) (Some (mi.forth (get_or (in_slot (slot_of mi.forth k b) s l) i (0, 0)).0, (get_or (in_slot (slot_of mi.forth k b) s l) i (0, 0)).1)))
-      (slot_at : ps ≡ y / 2 ^ (k - b - 1)) (quotient-at : pq ≡ y % 2 ^ (k - b - 1)) where
+      (slot_at : ps ≡ y / 2 ^ (k - b - 1)) (quotient_at : pq ≡ y % 2 ^ (k - b - 1)) where
     abbrev e : ℕ × ℕ
     e = get_or (in_slot (slot_of mi.forth k b) s l) i (0, 0)
 
@@ -118,7 +118,7 @@ module _ {A : Type 0} {ta : table.Ghosts A}
     next = walk_at (slot_of mi.forth k b) l (quotient_of mi.forth k b) (2 ^ b) s i h less
 
     at : Placed mi.forth k (b + 1) e.0 y ps pq
-    at = placed_larger mi.forth k b e.0 (ap (λ (x : ℕ × ℕ). x.0) both) slot_at quotient-at
+    at = placed_larger mi.forth k b e.0 (ap (λ (x : ℕ × ℕ). x.0) both) slot_at quotient_at
 
     inside : e.0 < 2 ^ k
     inside = All-get_or (λ d. d.0 < 2 ^ k) (in_slot (slot_of mi.forth k b) s l) i (0, 0) less (all_kept_by (λ d. eqb (slot_of mi.forth k b d.0) s) (λ d. d.0 < 2 ^ k) l st.below)

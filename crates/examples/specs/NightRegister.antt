@@ -3,7 +3,6 @@
 -- night_coding, booking_coding   the codings of its keys and values
 -- plain_kind                     a plain table of 16,384 words
 -- night_register                 the two, with every number left as it is, and two such tables
-use Rattle.std.specs.Prelude.{ℕ}
 use Rattle.coding.specs.Bookings.{booking_item, booking_number}
 use Rattle.coding.specs.Nights.{night_item, night_number}
 use Rattle.coding.specs.declared.items.Booking.{Booking}

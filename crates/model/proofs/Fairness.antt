@@ -1,4 +1,4 @@
--- The content of the machine's list is a well_formed meaning.
+-- The content of the machine's list is a well-formed meaning.
 use Rattle.std.proofs.Common.{◌≡◌, ℕ, ◌-◌, ◌/◌, ◌^◌, ◌<◌, Bool, true, false, cond, eqb, leb, List, [], ◌∷◌, length, get_or, sym, subst, arith, pow_pos}
 use Rattle.std.proofs.lemmas.Nat.{div-add-mod', mod_below}
 use Rattle.std.proofs.ByRecursion.{all-has, All-weaker, has_get_or}

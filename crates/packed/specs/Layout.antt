@@ -10,7 +10,7 @@
 --   with_areas, without_place   a block with other areas; a group without a place of a slot
 --   fits                     which widths fit n words
 --   packed_table             the layout
---   MarkedBlock             a block with the marks of some sizes, whatever its fields are
+--   MarkedBlock              a block with the marks of some sizes, whatever its fields are
 use Rattle.std.specs.Prelude.{◌≡◌, ℕ, ◌+◌, ◌-◌, ◌*◌, ◌/◌, ◌^◌, Bool, ◌&&◌, List, [], ◌∷◌, ◌++◌, map, length, take, drop, sum, nat_le, slice_index, slice_index_or, slice_set}
 use Rattle.std.specs.List.{range_with_len, flat_map, remove}
 use Rattle.bits.specs.Area.{number, words_of, field, packed}

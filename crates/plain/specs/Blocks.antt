@@ -40,7 +40,7 @@ length_block es h =
 narrow : (q v : ℕ) (es : List (ℕ × ℕ)) → q ≤ 32 → Good q v es → (i : ℕ) → i < length es → (get_or es i (0, 0)).0 < 2 ^ 32
 narrow q v es w g i h = let p : 2 ^ q ≤ 2 ^ 32 = pow_mono w in omega (arith, g.quotients i h)
 
--- a well_formed list is what its block reads as
+-- a well-formed list is what its block reads as
 pub entries_block : (q v : ℕ) (es : List (ℕ × ℕ)) → q ≤ 32 → Good q v es → entries_of (block_of es) ≡ es
 unfolding block_of entries_of
 entries_block q v es w g =

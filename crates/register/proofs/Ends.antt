@@ -27,7 +27,7 @@ use Rattle.register.specs.declared.state.Register.{Register}
 use Rattle.register.specs.Fixed.{fixed}
 use Rattle.register.specs.Stands.{Stands, side_of}
 use Rattle.register.specs.Numbers.{Chosen, Finds, MoveEnds, Reached, RunEnds, counted, enlarged, other_side, relisted, reopened}
-use Rattle.register.specs.Answers.{number-answer, run-answer}
+use Rattle.register.specs.Answers.{number_answer, run_answer}
 use Rattle.register.specs.Reading.{Good, Reads}
 use Rattle.register.specs.Promise.{Steps, reply as said}
 
@@ -172,8 +172,8 @@ module _ {K T V U P A B : Type 0} {kc : coding.Ghosts K T} {vc : coding.Ghosts V
     nothing ok t st = reply_ok (judged t) (sym ok ∙ (ends t st (chosen t st)).says)
 
     -- refused
-    pub run_refused : (e : RunRefusal) → x ≡ Err e → (y : Result ℕ RunRefusal) → y ≡ Err e → Steps kc vc pm ta tb r s call (run-answer y)
-    run_refused e err y is = subst (λ z. Steps kc vc pm ta tb r s call (run-answer z)) (sym is)
+    pub run_refused : (e : RunRefusal) → x ≡ Err e → (y : Result ℕ RunRefusal) → y ≡ Err e → Steps kc vc pm ta tb r s call (run_answer y)
+    run_refused e err y is = subst (λ z. Steps kc vc pm ta tb r s call (run_answer z)) (sym is)
         (refused_steps s call (RefusedAt e)
         (λ t st. (ends t st (chosen t st)).kept e (against e err t st))
         (λ t st. goes t ∙ ap (run_end t n (new t)) (against e err t st)))
@@ -194,8 +194,8 @@ module _ {K T V U P A B : Type 0} {kc : coding.Ghosts K T} {vc : coding.Ghosts V
   module _ (s : Register K V P A B T U) (x : Result (Unit {0}) Refusal)
       (ends : (t : State) → Stands kc vc pm ta tb r (opened t) → Chosen kc vc pm ta tb r t used → MoveEnds kc vc pm ta tb r s t x) where
     -- refused
-    pub move_refused : (e : Refusal) → x ≡ Err e → (y : Result ℕ Refusal) → y ≡ Err e → Steps kc vc pm ta tb r s Enlarge (number-answer y)
-    move_refused e err y is = subst (λ z. Steps kc vc pm ta tb r s Enlarge (number-answer z)) (sym is)
+    pub move_refused : (e : Refusal) → x ≡ Err e → (y : Result ℕ Refusal) → y ≡ Err e → Steps kc vc pm ta tb r s Enlarge (number_answer y)
+    move_refused e err y is = subst (λ z. Steps kc vc pm ta tb r s Enlarge (number_answer z)) (sym is)
         (refused_steps s Enlarge (Refused e)
         (λ t st. (ends t st (chosen t st)).kept e err)
         (λ t st. move_stops (fixed kc vc pm ta tb r) t e (larger_fits (fixed kc vc pm ta tb r) t) (room_judged (fixed kc vc pm ta tb r) t) refl (sym err ∙ (ends t st (chosen t st)).says)))

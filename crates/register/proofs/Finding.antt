@@ -20,7 +20,7 @@ use Rattle.register.specs.declared.state.Register.{Register}
 use Rattle.register.specs.Fixed.{fixed}
 use Rattle.register.specs.Stands.{HasItem, Stands}
 use Rattle.register.specs.Numbers.{Chosen, Finds}
-use Rattle.register.specs.Answers.{value-answer}
+use Rattle.register.specs.Answers.{value_answer}
 use Rattle.register.specs.Promise.{Steps}
 use Rattle.register.proofs.Ends.{chosen, open_steps, refused_steps}
 
@@ -60,8 +60,8 @@ module _ {K T V U P A B : Type 0} {kc : coding.Ghosts K T} {vc : coding.Ghosts V
   says t st = value t st (chosen r looked used is-used finds t st) below
 
   -- the key is not held
-  pub find_absent : (e : TableRefusal) → x ≡ Err e → (y : Result U Refusal) → y ≡ Err (Table e) → Steps kc vc pm ta tb r r (Find key) (value-answer y)
-  find_absent e err y is = subst (λ z. Steps kc vc pm ta tb r r (Find key) (value-answer z)) (sym is)
+  pub find_absent : (e : TableRefusal) → x ≡ Err e → (y : Result U Refusal) → y ≡ Err (Table e) → Steps kc vc pm ta tb r r (Find key) (value_answer y)
+  find_absent e err y is = subst (λ z. Steps kc vc pm ta tb r r (Find key) (value_answer z)) (sym is)
       (refused_steps r looked used is-used finds r (Find key) (Refused (Table e)) (λ t st. refl)
       (λ t st.
       let both = answer_none (value_in t.list m) e (sym err ∙ says t st) in

@@ -2,7 +2,7 @@ ghost use Rattle.std.specs.Prelude.{◌≡◌};
 ghost use Rattle.model.specs.declared.call.Call.TheVariants.{Open, Find, Count, At, Enlarge};
 ghost use Rattle.model.specs.declared.answer.Answer.TheVariants.{Number};
 ghost use Rattle.register.specs.Stands.{Same};
-ghost use Rattle.register.specs.Answers.{number-answer, value-answer, entry-answer};
+ghost use Rattle.register.specs.Answers.{number_answer, value_answer, entry_answer};
 ghost use Rattle.register.specs.Promise.{Steps};
 
 use crate::side::Side;
@@ -16,7 +16,7 @@ impl<K: Coding, V: Coding, P: Permutation, A: Table, B: Table> Register<K, V, P,
     /// Opens a closed register on its first table, with 2^b slots. Answers b.
     pub fn open(&mut self, b: u32) -> Result<u32, Refusal>
         ensures same { Same K.Coding V.Coding P.Permutation A.Table B.Table self.old self.new }
-        ensures step { Steps K.Coding V.Coding P.Permutation A.Table B.Table self.old self.new (Open b) (number-answer result) }
+        ensures step { Steps K.Coding V.Coding P.Permutation A.Table B.Table self.old self.new (Open b) (number_answer result) }
     {
         if let Some(_) = self.opened {
             return Err(Refusal::AlreadyOpen);
@@ -35,7 +35,7 @@ impl<K: Coding, V: Coding, P: Permutation, A: Table, B: Table> Register<K, V, P,
     /// The value that a key is held under.
     pub fn find(&self, key: K::Item) -> Result<V::Item, Refusal>
         ensures same { self.now ≡ self.now }
-        ensures step { Steps K.Coding V.Coding P.Permutation A.Table B.Table self.now self.now (Find key) (value-answer result) }
+        ensures step { Steps K.Coding V.Coding P.Permutation A.Table B.Table self.now self.now (Find key) (value_answer result) }
     {
         let Some(m) = self.keys.number(key) else {
             return Err(Refusal::UnknownKey);
@@ -59,7 +59,7 @@ impl<K: Coding, V: Coding, P: Permutation, A: Table, B: Table> Register<K, V, P,
     /// The key number and the value number of the entry at a place, slots upwards and each in order of arrival.
     pub fn at(&self, i: u64) -> Result<(u64, u64), Refusal>
         ensures same { self.now ≡ self.now }
-        ensures step { Steps K.Coding V.Coding P.Permutation A.Table B.Table self.now self.now (At i) (entry-answer result) }
+        ensures step { Steps K.Coding V.Coding P.Permutation A.Table B.Table self.now self.now (At i) (entry_answer result) }
     {
         let used = self.in_use()?;
         let Some(entry) = self.entry_number(used, i) else {
@@ -71,7 +71,7 @@ impl<K: Coding, V: Coding, P: Permutation, A: Table, B: Table> Register<K, V, P,
     /// Moves all entries into the other table, with twice the slots. Answers the new b.
     pub fn enlarge(&mut self) -> Result<u32, Refusal>
         ensures same { Same K.Coding V.Coding P.Permutation A.Table B.Table self.old self.new }
-        ensures step { Steps K.Coding V.Coding P.Permutation A.Table B.Table self.old self.new Enlarge (number-answer result) }
+        ensures step { Steps K.Coding V.Coding P.Permutation A.Table B.Table self.old self.new Enlarge (number_answer result) }
     {
         let used = self.in_use()?;
         self.move_numbers(used)?;

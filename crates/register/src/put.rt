@@ -1,6 +1,6 @@
 ghost use Rattle.std.specs.Prelude.{◌≡◌};
 ghost use Rattle.register.specs.Stands.{Same};
-ghost use Rattle.register.specs.Answers.{number-answer, run-answer, value-answer, entry-answer};
+ghost use Rattle.register.specs.Answers.{number_answer, run_answer, value_answer, entry_answer};
 ghost use Rattle.register.specs.Promise.{Steps, Continues};
 
 use crate::state::Register;
@@ -14,7 +14,7 @@ use table::table::Table;
 
 // The answer of an open or an enlarge.
 fn numbered<V>(r: Result<u32, Refusal>) -> Answer<V>
-    ensures { result ≡ number-answer r }
+    ensures { result ≡ number_answer r }
 {
     match r {
         Ok(n) => Answer::Number(n as u64),
@@ -24,7 +24,7 @@ fn numbered<V>(r: Result<u32, Refusal>) -> Answer<V>
 
 // The answer of a take or a cancel.
 fn ran<V>(r: Result<u64, RunRefusal>) -> Answer<V>
-    ensures { result ≡ run-answer r }
+    ensures { result ≡ run_answer r }
 {
     match r {
         Ok(n) => Answer::Number(n),
@@ -34,7 +34,7 @@ fn ran<V>(r: Result<u64, RunRefusal>) -> Answer<V>
 
 // The answer of a find.
 fn found<V>(r: Result<V, Refusal>) -> Answer<V>
-    ensures { result ≡ value-answer r }
+    ensures { result ≡ value_answer r }
 {
     match r {
         Ok(v) => Answer::Value(v),
@@ -44,7 +44,7 @@ fn found<V>(r: Result<V, Refusal>) -> Answer<V>
 
 // The answer of an at.
 fn entered<V>(r: Result<(u64, u64), Refusal>) -> Answer<V>
-    ensures { result ≡ entry-answer r }
+    ensures { result ≡ entry_answer r }
 {
     match r {
         Ok((m, w)) => Answer::Entry(m, w),

@@ -1,7 +1,7 @@
 ghost use Rattle.std.specs.Prelude.{◌≡◌, ℕ, ◌^◌, ◌<◌, ◌++◌};
 ghost use Rattle.table.specs.Meaning.{value_in, answer_of};
 ghost use Rattle.model.specs.Entries.{run_of, without_run, cancel_refusal};
-ghost use Rattle.model.specs.Model.{Model, State, opened as open-as, slot_of};
+ghost use Rattle.model.specs.Model.{Model, State, opened as open_as, slot_of};
 ghost use Rattle.model.specs.Step.{take_judged};
 ghost use Rattle.dictionary.specs.Results.{listed_at};
 ghost use Rattle.register.specs.Fixed.{fixed};
@@ -53,7 +53,7 @@ impl<K: Coding, V: Coding, P: Permutation, A: Table, B: Table> Register<K, V, P,
 
     // The value number that a key number is held under.
     pub(crate) fn value_number(&self, used: InUse, m: u64) -> Result<u64, TableRefusal>
-        ensures { (t : State) → Stands K.Coding V.Coding P.Permutation A.Table B.Table self.now (open-as t)
+        ensures { (t : State) → Stands K.Coding V.Coding P.Permutation A.Table B.Table self.now (open_as t)
             → Chosen K.Coding V.Coding P.Permutation A.Table B.Table self.now t used
             → m < 2 ^ (K.Coding.width self.now.keys) → result ≡ answer_of (value_in t.list m) }
     {
@@ -65,7 +65,7 @@ impl<K: Coding, V: Coding, P: Permutation, A: Table, B: Table> Register<K, V, P,
 
     // The entry at a place of the walk, as numbers.
     pub(crate) fn entry_number(&self, used: InUse, i: u64) -> Option<(u64, u64)>
-        ensures { (t : State) → Stands K.Coding V.Coding P.Permutation A.Table B.Table self.now (open-as t)
+        ensures { (t : State) → Stands K.Coding V.Coding P.Permutation A.Table B.Table self.now (open_as t)
             → Chosen K.Coding V.Coding P.Permutation A.Table B.Table self.now t used
             → result ≡ listed_at (slot_of (fixed K.Coding V.Coding P.Permutation A.Table B.Table self.now) t.b) t.b t.list i }
     {
@@ -83,7 +83,7 @@ impl<K: Coding, V: Coding, P: Permutation, A: Table, B: Table> Register<K, V, P,
         n: u64,
     ) -> Result<(), RunRefusal>
         ensures same { Same K.Coding V.Coding P.Permutation A.Table B.Table self.old self.new }
-        ensures ends { (t : State) → Stands K.Coding V.Coding P.Permutation A.Table B.Table self.old (open-as t)
+        ensures ends { (t : State) → Stands K.Coding V.Coding P.Permutation A.Table B.Table self.old (open_as t)
             → Chosen K.Coding V.Coding P.Permutation A.Table B.Table self.old t used
             → Reached (fixed K.Coding V.Coding P.Permutation A.Table B.Table self.old) run.m n run.w
             → RunEnds K.Coding V.Coding P.Permutation A.Table B.Table self.old self.new t (t.list ++ run_of run.m run.w n)
@@ -117,7 +117,7 @@ impl<K: Coding, V: Coding, P: Permutation, A: Table, B: Table> Register<K, V, P,
         n: u64,
     ) -> Result<(), RunRefusal>
         ensures same { Same K.Coding V.Coding P.Permutation A.Table B.Table self.old self.new }
-        ensures ends { (t : State) → Stands K.Coding V.Coding P.Permutation A.Table B.Table self.old (open-as t)
+        ensures ends { (t : State) → Stands K.Coding V.Coding P.Permutation A.Table B.Table self.old (open_as t)
             → Chosen K.Coding V.Coding P.Permutation A.Table B.Table self.old t used
             → Reached (fixed K.Coding V.Coding P.Permutation A.Table B.Table self.old) run.m n run.w
             → RunEnds K.Coding V.Coding P.Permutation A.Table B.Table self.old self.new t (without_run run.m n t.list)
@@ -146,7 +146,7 @@ impl<K: Coding, V: Coding, P: Permutation, A: Table, B: Table> Register<K, V, P,
     // All entries into the table that is not in use, with one more bit of slots; the one they came from is cleared.
     pub(crate) fn move_numbers(&mut self, used: InUse) -> Result<(), Refusal>
         ensures same { Same K.Coding V.Coding P.Permutation A.Table B.Table self.old self.new }
-        ensures ends { (t : State) → Stands K.Coding V.Coding P.Permutation A.Table B.Table self.old (open-as t)
+        ensures ends { (t : State) → Stands K.Coding V.Coding P.Permutation A.Table B.Table self.old (open_as t)
             → Chosen K.Coding V.Coding P.Permutation A.Table B.Table self.old t used
             → MoveEnds K.Coding V.Coding P.Permutation A.Table B.Table self.old self.new t result }
     {

@@ -105,9 +105,9 @@ module _ {E : Type 0} (none : E) (S m : ℕ) (pos : 0 < S) where
         ext_get_or [] (groups S m (flat_map (λ x. x) gs)) gs (l ∙ sym count) (λ i h.
         let il : i < m = omega arith in getD_groups (flat_map (λ x. x) gs) i il ∙ group_is i il)
 
--- a well_formed content by its groups, and back
+-- a well-formed content by its groups, and back
 module _ (S C : ℕ) (fits : ℕ → ℕ → ℕ → Bool) (k v b m : ℕ) (pos : 0 < S) (whole : m * S ≡ 2 ^ b) where
-  -- each group of a well_formed content is good
+  -- each group of a well-formed content is good
   pub well_groups : (slots : List (List (ℕ × ℕ))) → WellFormed S C fits k v b slots → (g : ℕ) → g < m → GoodGroup S C (k - b) v (get_or (groups S m slots) g [])
   unfolding load
   well_groups slots w g h =
@@ -126,7 +126,7 @@ module _ (S C : ℕ) (fits : ℕ → ℕ → ℕ → Bool) (k v b m : ℕ) (pos 
     pub even_groups : All (λ x. length x ≡ S) gs
     even_groups = All-from_get_or (λ x. length x ≡ S) gs [] (λ i h. let l : i < m = omega arith in (fine i l).whole)
 
-    -- good groups make a well_formed content
+    -- good groups make a well-formed content
     pub groups_well : fits k v b ≡ true → WellFormed S C fits k v b (flat_map (λ x. x) gs)
     unfolding load
     groups_well fit =

@@ -32,7 +32,7 @@ sum_none S unformed s = refl
 sum_none S (formed k v b slots) s = ((λ h. absurd (omega arith)), refl)
 
 module _ (S C : ℕ) (pos : 0 < S) (fits : ℕ → ℕ → ℕ → Bool) (fit_law : (k v b : ℕ) → fits k v b ≡ true → Fit S k v b) where
-  -- a slot and its group in a well_formed content
+  -- a slot and its group in a well-formed content
   module _ (k v b : ℕ) (slots : List (List (ℕ × ℕ))) (w : WellFormed S C fits k v b slots) (s i : ℕ) (il : i < S) where
     whole : 2 ^ b / S * S ≡ 2 ^ b
     whole = omega (arith, div-add-mod' (2 ^ b) S, (fit_law k v b w.fit).whole)

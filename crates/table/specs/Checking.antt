@@ -1,6 +1,6 @@
 -- When words are those of a content, and which block is the first that is none's.
---   Given     some well_formed group has this block
---   Holds     some well_formed content has these words
+--   Given     some well-formed group has this block
+--   Holds     some well-formed content has these words
 --   Wrong     the number of the first block that no content gives, or of all blocks where only a later word is not zero
 --   Checked   what a check answers
 use Rattle.std.specs.Prelude.{◌≡◌, ℕ, ◌-◌, ◌*◌, ◌<◌, true, false, ◌⊎◌, List, length, drop, replicate, Ok, Err, Result, ◌≢◌}
@@ -9,13 +9,13 @@ use Rattle.table.specs.declared.check_refusal.CheckRefusal.TheVariants.{DoesNotF
 use Rattle.table.specs.Meaning.{formed, WellFormed}
 use Rattle.table.specs.Layout.{Layout, GoodGroup, part, words_of}
 
--- some well_formed group has this block
+-- some well-formed group has this block
 pub record Given (L : Layout) (k v b : ℕ) (block : List ℕ) : Type 0 where
   pub slots : List (List (ℕ × ℕ))
   pub good : GoodGroup L.S L.C (k - b) v slots
   pub made : block ≡ L.block k v b slots
 
--- some well_formed content has these words
+-- some well-formed content has these words
 pub record Holds (L : Layout) (ws : List ℕ) (k v b : ℕ) : Type 0 where
   pub slots : List (List (ℕ × ℕ))
   pub well : WellFormed L.S L.C (L.fits (length ws)) k v b slots
