@@ -34,7 +34,6 @@ impl<K: Coding, V: Coding, P: Permutation, A: Table, B: Table> Register<K, V, P,
 
     /// The value that a key is held under.
     pub fn find(&self, key: K::Item) -> Result<V::Item, Refusal>
-        ensures same { self.now ≡ self.now }
         ensures step { Steps K.Coding V.Coding P.Permutation A.Table B.Table self.now self.now (Find key) (value_answer result) }
     {
         let Some(m) = self.keys.number(key) else {
@@ -50,7 +49,6 @@ impl<K: Coding, V: Coding, P: Permutation, A: Table, B: Table> Register<K, V, P,
 
     /// How many keys are held; none while the register is closed.
     pub fn count(&self) -> u64
-        ensures same { self.now ≡ self.now }
         ensures step { Steps K.Coding V.Coding P.Permutation A.Table B.Table self.now self.now Count (Number result) }
     {
         self.count
@@ -58,7 +56,6 @@ impl<K: Coding, V: Coding, P: Permutation, A: Table, B: Table> Register<K, V, P,
 
     /// The key number and the value number of the entry at a place, slots upwards and each in order of arrival.
     pub fn at(&self, i: u64) -> Result<(u64, u64), Refusal>
-        ensures same { self.now ≡ self.now }
         ensures step { Steps K.Coding V.Coding P.Permutation A.Table B.Table self.now self.now (At i) (entry_answer result) }
     {
         let used = self.in_use()?;
