@@ -9,6 +9,7 @@ pub mod cards;
 pub mod items;
 pub mod loans;
 pub mod nights;
+mod ranged;
 
 pub use bookings::BookingCoding;
 pub use cards::CardCoding;
