@@ -7,6 +7,7 @@ ghost use Rattle.std.specs.Prelude.{◌≡◌, ℕ, ◌^◌, ◌<◌, ◌≤◌,
 pub mod bookings;
 pub mod cards;
 pub mod items;
+pub mod laws;
 pub mod loans;
 pub mod nights;
 mod ranged;
