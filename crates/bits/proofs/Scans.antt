@@ -5,7 +5,7 @@ use lib.Bits.{bit_or, or_shifted}
 use lib.Count.{ones, count_trailing_zeros}
 use lib.Pow.{pow-lt, shr_le, split, high, low, mod-pow-add}
 use Rattle.std.proofs.lemmas.Nat.{one_shl}
-use Rattle.std.proofs.lemmas.Bool.{cases_lt, cond-true, cond-false, eq-eqb, ne_eqb}
+use Rattle.std.proofs.lemmas.Bool.{cases_lt, cond-false, ne_eqb}
 use Rattle.bits.specs.Marks.{marks, run, sizes, entries_before, begins, size_of, ends, one_at, bit_out, one_more, one_less, Marked}
 use Rattle.bits.proofs.Splices.{mod_over}
 use Rattle.bits.proofs.Gets.{shl_mod}
@@ -145,10 +145,6 @@ bit_taken m p f l =
     let half< : m / 2 ^ p / 2 < 2 ^ (64 - p) = omega arith in
     let le : (64 - p) + p ≤ 64 = omega arith in
     ap (λ (u : ℕ). bit_or u (m % 2 ^ p)) (shl_exact (64 - p) p 64 half< le) ∙ or_shifted (m / 2 ^ p / 2) p (m % 2 ^ p) (mod-lt m (pow_pos p))
-
--- an empty slot stays
-pub remove_none : (m j s : ℕ) → s ≡ size_of j m → s ≡ 0 → m ≡ one_less j m
-remove_none m j s x h = sym (cond-true (eqb (size_of j m) 0) m (bit_out (begins j m) m) (eq-eqb (size_of j m) 0 (sym x ∙ h)))
 
 -- a slot with an entry begins in the word
 pub begins_in : (m j s b : ℕ) → m < 2 ^ 64 → s ≡ size_of j m → (s ≡ 0 → ⊥) → b ≡ min (begins j m) 64 → b < 64

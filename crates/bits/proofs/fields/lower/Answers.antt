@@ -21,8 +21,3 @@ loop-part-preserved c =
     let i = subst (λ u. Lowered (number c.loop-part.area) (number c.args.area.now) c.args.from u c.args.by.bits) at c.loop-part.invariant in
     subst (λ u. Lowered (number c.write_bits.new.area) (number c.args.area.now) c.args.from u c.args.by.bits) next
     (lowered_more _ _ _ _ _ _ _ _ (omega arith) i r w)
-
-pub returns : goal.returns
-returns c =
-    let end : min (c.args.from + 64 * c.loop-part.part) c.args.end ≡ c.args.end = omega arith in
-    subst (λ u. Lowered (number c.loop-part.area) (number c.args.area.now) c.args.from u c.args.by.bits) end c.loop-part.invariant

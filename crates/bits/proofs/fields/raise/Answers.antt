@@ -22,8 +22,3 @@ loop-part-preserved c =
     let i = subst (λ u. Raised (number c.loop-part.area) (number c.args.area.now) u c.args.end c.args.by.bits) at c.loop-part.invariant in
     subst (λ u. Raised (number c.write_bits.new.area) (number c.args.area.now) u c.args.end c.args.by.bits) next
     (raised_more _ _ _ _ _ _ _ _ (omega arith) i c.read_bits-moved.ensures.value w)
-
-pub returns : goal.returns
-returns c =
-    let start : min (c.args.from + 64 * c.loop-part.part) c.args.end ≡ c.args.from = omega arith in
-    subst (λ u. Raised (number c.loop-part.area) (number c.args.area.now) u c.args.end c.args.by.bits) start c.loop-part.invariant
