@@ -1,5 +1,5 @@
 -- A field put into an area or taken out of it, as the code does it.
-use Rattle.std.proofs.Common.{◌≡◌, ℕ, ◌+◌, ◌-◌, ◌*◌, ◌%◌, ◌^◌, ◌<◌, ◌≤◌, min, max, ◌⊎◌, List, length, get_or, sym, ap, ◌∙◌, ap₂, inl, inr, ⊎_elim, mul-le-mul_right, add-mul, arith}
+use Rattle.std.proofs.Common.{◌≡◌, ℕ, ◌+◌, ◌-◌, ◌*◌, ◌%◌, ◌^◌, ◌<◌, ◌≤◌, min, max, ◌⊎◌, List, length, get_or, sym, ap, ◌∙◌, subst, ap₂, inl, inr, ⊎_elim, mul-le-mul_right, add-mul, arith}
 use native.Mathlib.Nat.{zero-mod}
 use Rattle.std.proofs.lemmas.Bool.{cases_lt}
 use Rattle.bits.specs.Area.{number, words_of, splice, field_inserted, field_removed}
@@ -16,39 +16,43 @@ inserted_min w n a t v i e = ⊎_elim
     (le, inserted_past w n a t v h ∙ ap (λ (u : ℕ). field_inserted w n a u v) is ∙ inserted_form w n a i v le))
     (cases_lt t n)
 
+-- the same with the bit where the field begins
+inserted_at : (w n a t v i p : ℕ) → i ≡ min t n → p ≡ i * w → (p ≤ n * w) × (field_inserted w n a t v ≡ bits_inserted a p (n * w - p) w (v % 2 ^ w))
+inserted_at w n a t v i p e b =
+    let (le, is) = inserted_min w n a t v i e in
+    subst (λ (u : ℕ). (u ≤ n * w) × (field_inserted w n a t v ≡ bits_inserted a u (n * w - u) w (v % 2 ^ w))) (sym b) (mul-le-mul_right w le, is)
+
 -- the area with a field put in: bits from there to `last` were moved up, and then the field was written
-pub insert_all : (ws xs vs : List ℕ) (w n t v i end last : ℕ) → i ≡ min t n → end ≡ min ((n + 1) * w) (64 * length ws) → last ≡ max (end - w) (i * w)
-    → length xs ≡ length ws → Raised (number xs) (number ws) (i * w) last w → vs ≡ words_of (length xs) (splice (number xs) (i * w) w (v % 2 ^ w))
+pub insert_all : (ws xs vs : List ℕ) (w n t v i p end last : ℕ) → i ≡ min t n → p ≡ i * w → end ≡ min ((n + 1) * w) (64 * length ws) → last ≡ max (end - w) p
+    → length xs ≡ length ws → Raised (number xs) (number ws) p last w → vs ≡ words_of (length xs) (splice (number xs) p w (v % 2 ^ w))
     → vs ≡ words_of (length ws) (field_inserted w n (number ws) t v)
-insert_all ws xs vs w n t v i end last i-is e-is l-is len r g =
+insert_all ws xs vs w n t v i p end last i-is p-is e-is l-is len r g =
     let a = number ws in
     let l = 64 * length ws in
-    let p = i * w in
-    let f = inserted_min w n a t v i i-is in
-    let le : p ≤ n * w = mul-le-mul_right w f.0 in
+    let (le, form) = inserted_at w n a t v i p i-is p-is in
     let s : (n + 1) * w ≡ n * w + w = omega (arith, add-mul n 1 w) in
     let m≤ : last - p ≤ n * w - p = omega arith in
     let far : (last - p ≡ n * w - p) ⊎ (l ≤ p + (last - p + w)) = ⊎_elim (λ h. inr (omega arith)) (λ h. inl (omega arith)) (cases_lt l ((n + 1) * w)) in
     g ∙ ap₂ words_of len (raised_put a (number xs) p last w (v % 2 ^ w) r)
     ∙ words_same (length ws) (bits_inserted a p (last - p) w (v % 2 ^ w)) (field_inserted w n a t v)
-    (inserted_agree a p (n * w - p) (last - p) w (v % 2 ^ w) l m≤ far ∙ ap (λ (u : ℕ). u % 2 ^ l) (sym f.1))
+    (inserted_agree a p (n * w - p) (last - p) w (v % 2 ^ w) l m≤ far ∙ ap (λ (u : ℕ). u % 2 ^ l) (sym form))
 
 -- the area with a field taken out: the bits after it, up to `last`, were moved down, and then a zero was written
-pub remove_all : (ws xs vs : List ℕ) (w n t end last : ℕ) → t < n → end ≡ min (n * w) (64 * length ws) → last ≡ max (end - w) (t * w)
-    → length xs ≡ length ws → Lowered (number xs) (number ws) (t * w) last w → vs ≡ words_of (length xs) (splice (number xs) last w (0 % 2 ^ w))
+pub remove_all : (ws xs vs : List ℕ) (w n t p end last : ℕ) → t < n → p ≡ t * w → end ≡ min (n * w) (64 * length ws) → last ≡ max (end - w) p
+    → length xs ≡ length ws → Lowered (number xs) (number ws) p last w → vs ≡ words_of (length xs) (splice (number xs) last w (0 % 2 ^ w))
     → vs ≡ words_of (length ws) (field_removed w n (number ws) t)
-remove_all ws xs vs w n t end last h e-is l-is len r g =
+remove_all ws xs vs w n t p end last h p-is e-is l-is len r g =
     let a = number ws in
     let l = 64 * length ws in
-    let p = t * w in
-    let le : p + w ≤ n * w = room t n w h in
+    let le : p + w ≤ n * w = omega (arith, room t n w h, p-is) in
+    let form = subst (λ (u : ℕ). field_removed w n a t ≡ bits_removed a u (n * w - u - w) w) (sym p-is) (removed_form w n a t h) in
     let k = n * w - p - w in
     let m≤ : last - p ≤ k = omega arith in
     let p≤ : p ≤ last = omega arith in
     let far : (last - p ≡ k) ⊎ (l ≤ p + (w + (last - p))) = ⊎_elim (λ h. inr (omega arith)) (λ h. inl (omega arith)) (cases_lt l (n * w)) in
     g ∙ ap₂ words_of len (ap (splice (number xs) last w) (zero-mod (2 ^ w)) ∙ lowered_put a (number xs) p last w p≤ r)
     ∙ words_same (length ws) (bits_removed a p (last - p) w) (field_removed w n a t)
-    (removed_agree a p k (last - p) w l (number_lt ws) m≤ far ∙ ap (λ (u : ℕ). u % 2 ^ l) (sym (removed_form w n a t h)))
+    (removed_agree a p k (last - p) w l (number_lt ws) m≤ far ∙ ap (λ (u : ℕ). u % 2 ^ l) (sym form))
 
 -- at a place of n or more nothing is taken out
 pub remove_none : (ws : List ℕ) (w n t : ℕ) → n ≤ t → ((i : ℕ) → get_or ws i 0 < 2 ^ 64) → ws ≡ words_of (length ws) (field_removed w n (number ws) t)

@@ -5,7 +5,7 @@ use lib.Bits.{bit_and, bit_or, and_mask, or_shifted_r}
 use lib.Pow.{shl-shr, mod-pow-add, mod-mod-pow, shr_mod, high, low, ones_split, ones_lt}
 use Rattle.bits.specs.Area.{number, bits}
 use Rattle.bits.proofs.Numbers.{number_drop, number_word}
-use Rattle.bits.proofs.Splices.{bits_mod, bits_add, bits_lt}
+use Rattle.bits.proofs.Splices.{bits_mod, bits_add}
 
 -- bits that lie in one word
 pub bits_word : (ws : List ℕ) (q b k : ℕ) → b + k ≤ 64 → get_or ws q 0 < 2 ^ 64 → bits (number ws) (64 * q + b) k ≡ bits (get_or ws q 0) b k
@@ -87,10 +87,6 @@ read_two ws p k h n f =
     ∙ ap₂ (λ (u v : ℕ). u * 2 ^ s + v) (sym hi) (sym lo)
     ∙ sym (bits_add (number ws) p j s)
     ∙ ap (λ (u : ℕ). bits (number ws) p u) js
-
--- what is read, and that it is as small as the bits are
-pub read_all : (r a p k : ℕ) → r ≡ bits a p k → record { value : r ≡ bits a p k; bound : r < 2 ^ k }
-read_all r a p k e = record { value = e; bound = subst (λ (u : ℕ). u < 2 ^ k) (sym e) (bits_lt a p k) }
 
 -- one bit of an area
 pub bit_word : (ws : List ℕ) (u : ℕ) → ((i : ℕ) → get_or ws i 0 < 2 ^ 64) → bits (number ws) u 1 ≡ bits (get_or ws (u / 64) 0) (u % 64) 1

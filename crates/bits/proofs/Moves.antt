@@ -1,7 +1,7 @@
 -- The loops that move bits up and down, step by step.
-use Rattle.std.proofs.Common.{◌≡◌, ℕ, ◌+◌, ◌-◌, ◌*◌, ◌/◌, ◌%◌, ◌^◌, ◌<◌, ◌≤◌, ◌⊎◌, sym, ap, ◌∙◌, ap₂, inl, inr, lt_of_lt_of_le, mod-eq_of_lt, mul_assoc, add-mul, zero-mul, arith, pow_mono, pow-add, shr_lt}
+use Rattle.std.proofs.Common.{◌≡◌, ℕ, ◌+◌, ◌-◌, ◌*◌, ◌/◌, ◌%◌, ◌^◌, ◌<◌, ◌≤◌, ◌⊎◌, sym, ap, ◌∙◌, ap₂, inl, inr, lt_of_lt_of_le, mod-eq_of_lt, add-mul, zero-mul, arith, pow_mono, shr_lt}
 use Rattle.bits.specs.Area.{bits, splice}
-use Rattle.bits.proofs.Splices.{bits_lt, bits_add, splice_none, bits_splice_below, bits_splice_above, splice_join, splice_then, splice_agree, mod_over}
+use Rattle.bits.proofs.Splices.{pow_parts, bits_lt, bits_add, splice_none, bits_splice_below, bits_splice_above, splice_join, splice_then, splice_agree, mod_over}
 
 -- the bits of a from m to e stand by bits higher
 abbrev pub Raised : ℕ → ℕ → ℕ → ℕ → ℕ → Type 0
@@ -85,7 +85,7 @@ inserted_agree a p k m w v l h (inr g) =
     let b = bits a (p + m) (k - m) in
     let e : (k - m) + m ≡ k = omega arith in
     let e1 : bits a p k ≡ b * 2 ^ m + bits a p m = ap (bits a p) (sym e) ∙ bits_add a p (k - m) m in
-    let e2 : b * 2 ^ m * 2 ^ w ≡ b * 2 ^ (m + w) = mul_assoc b (2 ^ m) (2 ^ w) ∙ ap (λ (u : ℕ). b * u) (sym (pow-add 2 m w)) in
+    let e2 : b * 2 ^ m * 2 ^ w ≡ b * 2 ^ (m + w) = sym (pow_parts b m w) in
     let e3 : bits a p k * 2 ^ w + v ≡ b * 2 ^ (m + w) + y = ap (λ (u : ℕ). u * 2 ^ w + v) e1 ∙ omega (arith, e2, add-mul (b * 2 ^ m) (bits a p m) (2 ^ w)) in
     splice_agree a p (m + w) (k + w) y (bits a p k * 2 ^ w + v) l (omega arith) (omega arith)
     (sym (ap (λ (u : ℕ). u % 2 ^ (l - p)) e3 ∙ mod_over b y (l - p) (m + w) (omega arith)))

@@ -1,11 +1,11 @@
 -- Numbers and the lists of their fields.
-use Rattle.std.proofs.Common.{◌≡◌, ℕ, zero, suc, ◌+◌, ◌-◌, ◌*◌, ◌/◌, ◌%◌, ◌^◌, ◌<◌, ◌≤◌, List, [], ◌∷◌, ◌++◌, length, get_or, take, drop, sym, refl, ap, ◌∙◌, subst, ap₂, le_of_suc-le-suc, not-suc-le-zero, mul-le-mul_right, mod-lt, mod-eq_of_lt, zero-lt-suc, mul_assoc, suc-mul, add-mul, zero-mul, div-one, arith, pow_pos, pow-add, shr-shr}
+use Rattle.std.proofs.Common.{◌≡◌, ℕ, zero, suc, ◌+◌, ◌-◌, ◌*◌, ◌/◌, ◌%◌, ◌^◌, ◌<◌, ◌≤◌, List, [], ◌∷◌, ◌++◌, length, get_or, take, drop, sym, refl, ap, ◌∙◌, subst, ap₂, le_of_suc-le-suc, not-suc-le-zero, mul-le-mul_right, mod-lt, mod-eq_of_lt, zero-lt-suc, suc-mul, add-mul, zero-mul, div-one, arith, pow_pos, pow-add, shr-shr}
 use native.Mathlib.Nat.{mod-one}
 use lib.Arith.{digits_lt}
 use lib.Pow.{mod-pow-add, high, low}
 use Rattle.std.proofs.lemmas.List.{take_all, drop_all, append-nil}
 use Rattle.bits.specs.Area.{bits, splice, field, fields, packed, field_inserted, field_removed}
-use Rattle.bits.proofs.Splices.{room, splice_self, splice_then, bits_lt}
+use Rattle.bits.proofs.Splices.{pow_parts, room, splice_self, splice_then, bits_lt}
 use Rattle.bits.proofs.Moves.{bits_inserted, bits_removed}
 
 -- as many fields as are asked for
@@ -70,7 +70,7 @@ fields_packed_over w [] z f = refl
 fields_packed_over w (x ∷ xs) z f =
     let n = length xs in
     let e : suc n * w ≡ n * w + w = omega (arith, suc-mul n w) in
-    let m : z * 2 ^ (suc n * w) ≡ z * 2 ^ (n * w) * 2 ^ w = ap (λ (u : ℕ). z * 2 ^ u) e ∙ ap (λ (u : ℕ). z * u) (pow-add 2 (n * w) w) ∙ sym (mul_assoc z (2 ^ (n * w)) (2 ^ w)) in
+    let m : z * 2 ^ (suc n * w) ≡ z * 2 ^ (n * w) * 2 ^ w = ap (λ (u : ℕ). z * 2 ^ u) e ∙ pow_parts z (n * w) w in
     let y = z * 2 ^ (n * w) + packed w xs in
     let s : z * 2 ^ (suc n * w) + (packed w xs * 2 ^ w + x % 2 ^ w) ≡ y * 2 ^ w + x % 2 ^ w = omega (arith, m, add-mul (z * 2 ^ (n * w)) (packed w xs) (2 ^ w)) in
     let l = mod-lt x (pow_pos w) in
@@ -91,7 +91,7 @@ packed_append w (x ∷ xs) ys =
     let n = length xs in
     let a = packed w ys in
     let e : suc n * w ≡ n * w + w = omega (arith, suc-mul n w) in
-    let m : a * 2 ^ (suc n * w) ≡ a * 2 ^ (n * w) * 2 ^ w = ap (λ (u : ℕ). a * 2 ^ u) e ∙ ap (λ (u : ℕ). a * u) (pow-add 2 (n * w) w) ∙ sym (mul_assoc a (2 ^ (n * w)) (2 ^ w)) in
+    let m : a * 2 ^ (suc n * w) ≡ a * 2 ^ (n * w) * 2 ^ w = ap (λ (u : ℕ). a * 2 ^ u) e ∙ pow_parts a (n * w) w in
     ap (λ (u : ℕ). u * 2 ^ w + x % 2 ^ w) (packed_append w xs ys) ∙ omega (arith, m, add-mul (a * 2 ^ (n * w)) (packed w xs) (2 ^ w))
 
 -- the fields from place t on, packed, and a front below them

@@ -1,5 +1,5 @@
 -- Bits of an area, changed in its words.
-use Rattle.std.proofs.Common.{◌≡◌, ℕ, zero, suc, ◌+◌, ◌-◌, ◌*◌, ◌/◌, ◌%◌, ◌^◌, ◌<◌, ◌≤◌, ◌≢◌, List, [], ◌∷◌, ◌++◌, length, get_or, take, set, replicate, sym, refl, ap, ◌∙◌, subst, ap₂, lt_of_lt_of_le, le_of_suc-le-suc, not-suc-le-zero, lt_of_le_of_lt, add-zero, mod-lt, mod-eq_of_lt, mul_assoc, mul_comm, add-mul, mul-one, arith, length-append, length-set, get_or-set_other, pow_pos, pow_mono, pow-add, shl_exact, shr_lt}
+use Rattle.std.proofs.Common.{◌≡◌, ℕ, zero, suc, ◌+◌, ◌-◌, ◌*◌, ◌/◌, ◌%◌, ◌^◌, ◌<◌, ◌≤◌, ◌≢◌, List, [], ◌∷◌, ◌++◌, length, get_or, take, set, replicate, sym, refl, ap, ◌∙◌, subst, ap₂, lt_of_lt_of_le, le_of_suc-le-suc, not-suc-le-zero, lt_of_le_of_lt, add-zero, mod-lt, mod-eq_of_lt, add-mul, mul-one, arith, length-append, length-set, get_or-set_other, pow_pos, pow_mono, shl_exact, shr_lt}
 use lib.ListN.{length-replicate}
 use lib.Bits.{bit_and, bit_or, and_mask, and_block, or_block, or_shifted, and_zero_r, or_zero_r, or_lt, and_le_l}
 use lib.Pow.{shr_le, mod-pow-add, split, high, low, ones_split, ones_lt}
@@ -7,14 +7,14 @@ use Rattle.std.proofs.lemmas.List.{take_at}
 use Rattle.bits.specs.Area.{number, words_of, bits, splice}
 use Rattle.bits.specs.Words.{merge}
 use Rattle.bits.proofs.Numbers.{number_lt, number_words_fit, number_take, number_zeros, getD_zeros, words_number, words_mod, take_set_any, set_fits}
-use Rattle.bits.proofs.Splices.{bits_add, splice_lt, splice_sum, splice_of}
+use Rattle.bits.proofs.Splices.{pow_parts, mul_pow, bits_add, splice_lt, splice_sum, splice_of}
 use Rattle.bits.proofs.Gets.{bits_word, shl_mod}
 
 -- all bits but k from b up
 pub but_mask : (b k m : ℕ) → (2 ^ (m + (k + b)) - 1) - (2 ^ k - 1) * 2 ^ b ≡ ((2 ^ m - 1) * 2 ^ k + 0) * 2 ^ b + (2 ^ b - 1)
 but_mask b k m =
     let e : (2 ^ m - 1) * 2 ^ (k + b) ≡ ((2 ^ m - 1) * 2 ^ k + 0) * 2 ^ b =
-    ap (λ (u : ℕ). (2 ^ m - 1) * u) (pow-add 2 k b) ∙ sym (mul_assoc (2 ^ m - 1) (2 ^ k) (2 ^ b)) ∙ ap (λ (u : ℕ). u * 2 ^ b) (sym (add-zero ((2 ^ m - 1) * 2 ^ k))) in
+    pow_parts (2 ^ m - 1) k b ∙ ap (λ (u : ℕ). u * 2 ^ b) (sym (add-zero ((2 ^ m - 1) * 2 ^ k))) in
     omega (arith, ones_split m (k + b), ones_split k b, e)
 
 -- a word whose k bits from b up are cleared, and then set to v
@@ -28,7 +28,7 @@ word_put x b k m v f g =
     let d< : d < 2 ^ k = mod-lt (x / 2 ^ b) (pow_pos k) in
     let l< : l < 2 ^ b = mod-lt x (pow_pos b) in
     let h< : h < 2 ^ m = shr_lt m (k + b) f in
-    let up : h * 2 ^ (k + b) ≡ h * 2 ^ k * 2 ^ b = ap (λ (u : ℕ). h * u) (pow-add 2 k b) ∙ sym (mul_assoc h (2 ^ k) (2 ^ b)) in
+    let up : h * 2 ^ (k + b) ≡ h * 2 ^ k * 2 ^ b = pow_parts h k b in
     let x_is : x ≡ (h * 2 ^ k + d) * 2 ^ b + l = omega (arith, split x (k + b), mod-pow-add x k b, up, add-mul (h * 2 ^ k) d (2 ^ b)) in
     let inner : bit_and (h * 2 ^ k + d) ((2 ^ m - 1) * 2 ^ k + 0) ≡ h * 2 ^ k =
     and_block k h (2 ^ m - 1) d 0 d< (pow_pos k)
@@ -52,7 +52,7 @@ number_set (x ∷ xs) (suc q) y h =
     let w = get_or xs q 0 % 2 ^ 64 in
     let e : 64 * suc q ≡ 64 * q + 64 = omega arith in
     let m : (z : ℕ) → z * 2 ^ (64 * suc q) ≡ z * 2 ^ (64 * q) * 2 ^ 64 =
-    λ z. ap (λ (u : ℕ). z * u) (ap (λ (u : ℕ). 2 ^ u) e ∙ pow-add 2 (64 * q) 64) ∙ sym (mul_assoc z (2 ^ (64 * q)) (2 ^ 64)) in
+    λ z. ap (λ (u : ℕ). z * 2 ^ u) e ∙ pow_parts z (64 * q) 64 in
     omega (arith, m w, m (y % 2 ^ 64), number_set xs q y (le_of_suc-le-suc h))
 
 -- bits in one word of an area replaced
@@ -61,8 +61,7 @@ pub number_put : (ws : List ℕ) (q b k v y : ℕ) → q < length ws → get_or 
 number_put ws q b k v y l f g h e =
     let x = get_or ws q 0 in
     let t = 2 ^ (64 * q) in
-    let m : (z : ℕ) → z * 2 ^ (64 * q + b) ≡ z * 2 ^ b * t =
-    λ z. ap (λ (u : ℕ). z * u) (pow-add 2 (64 * q) b ∙ mul_comm t (2 ^ b)) ∙ sym (mul_assoc z (2 ^ b) t) in
+    let m : (z : ℕ) → z * 2 ^ (64 * q + b) ≡ z * 2 ^ b * t = λ z. mul_pow z (64 * q) b in
     let s : (y + bits x b k * 2 ^ b) * t ≡ (x + v * 2 ^ b) * t = ap (λ (u : ℕ). u * t) (ap (λ (u : ℕ). u + bits x b k * 2 ^ b) e ∙ splice_sum x b k v) in
     let n = number_set ws q y l in
     let n' : number (set ws q y) + x * t ≡ number ws + y * t =
@@ -143,14 +142,12 @@ write_two ws p k v h n l f f' g =
     let two' : number (set ws' (q + 1) y') + bits (number ws) (p + s) j * 2 ^ (p + s) ≡ number ws' + u' * 2 ^ (p + s) =
     subst (λ (z : ℕ). number (set ws' (q + 1) y') + bits (number ws) z j * 2 ^ z ≡ number ws' + u' * 2 ^ z) e'
     (ap (λ (z : ℕ). number (set ws' (q + 1) y') + z * 2 ^ (64 * (q + 1) + 0)) (sym keep) ∙ two) in
-    let m : (z : ℕ) → z * 2 ^ (p + s) ≡ z * 2 ^ s * 2 ^ p =
-    λ z. ap (λ (w : ℕ). z * w) (pow-add 2 p s ∙ mul_comm (2 ^ p) (2 ^ s)) ∙ sym (mul_assoc z (2 ^ s) (2 ^ p)) in
     let old : bits (number ws) p k * 2 ^ p ≡ bits (number ws) (p + s) j * 2 ^ s * 2 ^ p + bits (number ws) p s * 2 ^ p =
     ap (λ (z : ℕ). z * 2 ^ p) (ap (bits (number ws) p) (sym js) ∙ bits_add (number ws) p j s)
     ∙ add-mul (bits (number ws) (p + s) j * 2 ^ s) (bits (number ws) p s) (2 ^ p) in
     let new : v * 2 ^ p ≡ u' * 2 ^ s * 2 ^ p + (v % 2 ^ s) * 2 ^ p = ap (λ (z : ℕ). z * 2 ^ p) (sym (split v s)) ∙ add-mul (u' * 2 ^ s) (v % 2 ^ s) (2 ^ p) in
     splice_of (number (set ws' (q + 1) y')) (number ws) p k v
-    (omega (arith, one', two', m (bits (number ws) (p + s) j), m u', old, new))
+    (omega (arith, one', two', mul_pow (bits (number ws) (p + s) j) p s, mul_pow u' p s, old, new))
 
 -- an area is the front of itself with zeros after it: what a write leaves there, cut at the area's end, it leaves here
 module _ (ws : List ℕ) (m : ℕ) where

@@ -1,11 +1,12 @@
 -- The ones that a number ends in.
-use Rattle.std.proofs.Common.{◌≡◌, ℕ, zero, suc, ◌+◌, ◌-◌, ◌*◌, ◌/◌, ◌%◌, ◌^◌, ◌<◌, ◌≤◌, sym, refl, ap, ◌∙◌, subst, ap₂, ⊎_elim, le_refl, lt_of_lt_of_le, le_of_suc-le-suc, not-suc-le-zero, mul_assoc, add-mul, pow-suc, arith, lit<, pow_pos, pow_mono, pow-add, shr_lt}
+use Rattle.std.proofs.Common.{◌≡◌, ℕ, zero, suc, ◌+◌, ◌-◌, ◌*◌, ◌/◌, ◌%◌, ◌^◌, ◌<◌, ◌≤◌, sym, refl, ap, ◌∙◌, subst, ap₂, ⊎_elim, le_refl, lt_of_lt_of_le, le_of_suc-le-suc, not-suc-le-zero, add-mul, pow-suc, arith, lit<, pow_pos, pow_mono, pow-add, shr_lt}
 use lib.Arith.{half_le}
 use lib.Bits.{block_half, block_odd}
 use lib.Count.{count_trailing_zeros, under, trailing_of_zero}
 use lib.Pow.{pow-lt, high, ones_split, ones_lt}
 use Rattle.std.proofs.lemmas.Bool.{cases_lt, cases_eq}
 use Rattle.bits.specs.Marks.{run}
+use Rattle.bits.proofs.Splices.{pow_parts}
 
 -- ones with a zero above them
 pub ones_under : (s : ℕ) → 2 ^ s - 1 < 2 ^ (s + 1)
@@ -54,7 +55,7 @@ parts (suc d) m h = ⊎_elim
     let r = parts d (m / 2) (half_le h) in
     let s = r.0 in
     let hi = r.1.0 in
-    let p : hi * 2 ^ (s + 1 + 1) ≡ hi * 2 ^ (s + 1) * 2 = ap (λ (u : ℕ). hi * u) (pow-add 2 (s + 1) 1) ∙ sym (mul_assoc hi (2 ^ (s + 1)) 2) in
+    let p : hi * 2 ^ (s + 1 + 1) ≡ hi * 2 ^ (s + 1) * 2 = pow_parts hi (s + 1) 1 in
     (s + 1, (hi, omega (arith, r.1.1, p, pow-add 2 s 1, pow_pos s))))
     (cases_eq (m % 2) 0)
 

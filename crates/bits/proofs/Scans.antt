@@ -1,13 +1,13 @@
 -- Marks in one word, as the code finds and changes them.
-use Rattle.std.proofs.Common.{◌≡◌, ℕ, suc, ◌+◌, ◌-◌, ◌*◌, ◌/◌, ◌%◌, ◌^◌, ◌<◌, ◌≤◌, min, Bool, true, false, eqb, MatchBool, sum, sym, refl, ap, ◌∙◌, subst, ap₂, ⊎_elim, lt_of_lt_of_le, lt_of_le_of_lt, mod-lt, mod-eq_of_lt, mul_assoc, add-mul, arith, pow_pos, pow_mono, pow-add, shl_exact, shr_lt}
+use Rattle.std.proofs.Common.{◌≡◌, ℕ, suc, ◌+◌, ◌-◌, ◌*◌, ◌/◌, ◌%◌, ◌^◌, ◌<◌, ◌≤◌, min, Bool, true, false, eqb, MatchBool, sum, sym, refl, ap, ◌∙◌, subst, ap₂, ⊎_elim, lt_of_lt_of_le, lt_of_le_of_lt, mod-lt, mod-eq_of_lt, add-mul, arith, pow_pos, pow_mono, pow-add, shl_exact, shr_lt}
 use native.Mathlib.Nat.{div-eq_of_lt}
 use lib.Bits.{bit_or, or_shifted}
 use lib.Count.{ones, count_trailing_zeros}
 use lib.Pow.{pow-lt, shr_le, split, high, low, mod-pow-add}
 use Rattle.std.proofs.lemmas.Nat.{one_shl}
-use Rattle.std.proofs.lemmas.Bool.{cases_lt, cond-true, cond-false, eq-eqb, ne_eqb}
+use Rattle.std.proofs.lemmas.Bool.{cases_lt, cond-false, ne_eqb}
 use Rattle.bits.specs.Marks.{marks, run, sizes, entries_before, begins, size_of, ends, one_at, bit_out, one_more, one_less, Marked}
-use Rattle.bits.proofs.Splices.{mod_over}
+use Rattle.bits.proofs.Splices.{pow_parts, mul_pow, mod_over}
 use Rattle.bits.proofs.Gets.{shl_mod}
 use Rattle.bits.proofs.Runs.{run_le, run_zero, trailing_run}
 use Rattle.bits.proofs.Unary.{begins_zero, begins_more, begins_mono, marks_below, ones_marks, length_sizes, sizes_marks}
@@ -109,15 +109,15 @@ one_put m p l =
     let e : b + (p + 1) ≡ 64 = omega arith in
     let q : p < p + 1 = omega arith in
     let two : 2 ^ (p + 1) ≡ 2 ^ p * 2 = pow-add 2 p 1 in
-    let up : h * 2 ^ (p + 1) ≡ h * 2 ^ p * 2 = ap (λ (z : ℕ). h * z) two ∙ sym (mul_assoc h (2 ^ p) 2) in
+    let up : h * 2 ^ (p + 1) ≡ h * 2 ^ p * 2 = pow_parts h p 1 in
     let top : (m - u) * 2 ^ 1 ≡ h * 2 ^ (p + 1) = omega (arith, split m p, up) in
     let x = h % 2 ^ b in
     let shifted : ((m - u) * 2 ^ 1) % 2 ^ 64 ≡ x * 2 ^ (p + 1) = ap (λ (z : ℕ). z % 2 ^ 64) top ∙ ap (λ (z : ℕ). (h * 2 ^ (p + 1)) % 2 ^ z) (sym e) ∙ shl_mod h b (p + 1) in
-    let upx : x * 2 ^ (p + 1) ≡ x * 2 * 2 ^ p = ap (λ (z : ℕ). x * z) (two ∙ flip (2 ^ p)) ∙ sym (mul_assoc x 2 (2 ^ p)) in
+    let upx : x * 2 ^ (p + 1) ≡ x * 2 * 2 ^ p = mul_pow x p 1 in
     let one : x * 2 ^ (p + 1) + 2 ^ p ≡ (x * 2 + 1) * 2 ^ p = omega (arith, upx, add-mul (x * 2) 1 (2 ^ p)) in
     let low< : 2 ^ p + u < 2 ^ (p + 1) = omega (arith, two) in
     let whole : one_at p m ≡ h * 2 ^ (p + 1) + (2 ^ p + u) =
-    let s : h * 2 ^ (p + 1) ≡ h * 2 * 2 ^ p = ap (λ (z : ℕ). h * z) (two ∙ flip (2 ^ p)) ∙ sym (mul_assoc h 2 (2 ^ p)) in omega (arith, s, add-mul (h * 2) 1 (2 ^ p)) in
+    let s : h * 2 ^ (p + 1) ≡ h * 2 * 2 ^ p = mul_pow h p 1 in omega (arith, s, add-mul (h * 2) 1 (2 ^ p)) in
     ap₂ (λ (s t : ℕ). bit_or (bit_or s t) u) shifted (one_shl p 64 l)
     ∙ ap (λ (s : ℕ). bit_or s u) (or_shifted x (p + 1) (2 ^ p) (pow-lt q) ∙ one)
     ∙ or_shifted (x * 2 + 1) p u u<
@@ -126,9 +126,6 @@ one_put m p l =
     ∙ sym (mod-pow-add (h * 2 ^ (p + 1) + (2 ^ p + u)) b (p + 1))
     ∙ ap (λ (s : ℕ). (h * 2 ^ (p + 1) + (2 ^ p + u)) % 2 ^ s) e
     ∙ ap (λ (s : ℕ). s % 2 ^ 64) (sym whole)
-  where
-    flip : (z : ℕ) → z * 2 ≡ 2 * z
-    flip z = omega arith
 
 -- what the code makes of the word
 pub added : (m j b u : ℕ) → b ≡ min (begins j m) 64 → b < 64 → u ≡ m % 2 ^ b
@@ -145,10 +142,6 @@ bit_taken m p f l =
     let half< : m / 2 ^ p / 2 < 2 ^ (64 - p) = omega arith in
     let le : (64 - p) + p ≤ 64 = omega arith in
     ap (λ (u : ℕ). bit_or u (m % 2 ^ p)) (shl_exact (64 - p) p 64 half< le) ∙ or_shifted (m / 2 ^ p / 2) p (m % 2 ^ p) (mod-lt m (pow_pos p))
-
--- an empty slot stays
-pub remove_none : (m j s : ℕ) → s ≡ size_of j m → s ≡ 0 → m ≡ one_less j m
-remove_none m j s x h = sym (cond-true (eqb (size_of j m) 0) m (bit_out (begins j m) m) (eq-eqb (size_of j m) 0 (sym x ∙ h)))
 
 -- a slot with an entry begins in the word
 pub begins_in : (m j s b : ℕ) → m < 2 ^ 64 → s ≡ size_of j m → (s ≡ 0 → ⊥) → b ≡ min (begins j m) 64 → b < 64

@@ -1,9 +1,10 @@
 -- The laws of `bits` and `splice`. None speaks of words.
-use Rattle.std.proofs.Common.{◌≡◌, ℕ, ◌+◌, ◌-◌, ◌*◌, ◌/◌, ◌%◌, ◌^◌, ◌<◌, ◌≤◌, sym, refl, ap, ◌∙◌, subst, ap₂, ⊎_elim, le_refl, mul-le-mul_right, mod-lt, mul_assoc, suc-mul, mul_comm, add-mul, arith, pow_pos, pow-add, shr-shr, shr_lt}
+use Rattle.std.proofs.Common.{◌≡◌, ℕ, ◌+◌, ◌-◌, ◌*◌, ◌/◌, ◌%◌, ◌^◌, ◌<◌, ◌≤◌, sym, refl, ap, ◌∙◌, subst, ap₂, ⊎_elim, le_refl, mul-le-mul_right, mod-lt, mul_assoc, add_comm, add-mul, arith, pow_pos, pow-add, shr-shr, shr_lt}
 use native.Mathlib.Nat.{add_right_cancel, mod-one}
 use lib.Arith.{digits_lt}
 use lib.Pow.{split, high, low, field, mod-pow-add, mod-mod-pow}
 use Rattle.std.proofs.lemmas.Bool.{cases_lt}
+use Rattle.std.proofs.lemmas.Grind.{common_steps}
 use Rattle.bits.specs.Area.{bits, splice}
 
 -- k bits from p are the same in n and in n's lowest m + (k + p) bits
@@ -40,16 +41,17 @@ splice_none n p k v e g =
     splice_of n n p k v (ap (λ (x : ℕ). n + x * 2 ^ p) (sym (bits_none n p k e)) ∙ ap (λ (x : ℕ). n + x * 2 ^ p) (sym v0))
 
 -- a number moved up twice
+pub pow_parts : (z j k : ℕ) → z * 2 ^ (j + k) ≡ z * 2 ^ j * 2 ^ k
+pow_parts z j k = ap (λ (w : ℕ). z * w) (pow-add 2 j k) ∙ sym (mul_assoc z (2 ^ j) (2 ^ k))
+
+-- in the other order
 pub mul_pow : (z p s : ℕ) → z * 2 ^ (p + s) ≡ z * 2 ^ s * 2 ^ p
-mul_pow z p s = ap (λ (w : ℕ). z * w) (pow-add 2 p s ∙ mul_comm (2 ^ p) (2 ^ s)) ∙ sym (mul_assoc z (2 ^ s) (2 ^ p))
+mul_pow z p s = ap (λ (w : ℕ). z * 2 ^ w) (add_comm p s) ∙ pow_parts z s p
 
 -- what is changed, as three parts
 pub splice_form : (a p k v : ℕ) → splice a p k v ≡ (a / 2 ^ (k + p) * 2 ^ k + v) * 2 ^ p + a % 2 ^ p
 unfolding splice
-splice_form a p k v =
-    let h = a / 2 ^ (k + p) in
-    let e : h * 2 ^ (k + p) ≡ h * 2 ^ k * 2 ^ p = ap (λ (w : ℕ). h * w) (pow-add 2 k p) ∙ sym (mul_assoc h (2 ^ k) (2 ^ p)) in
-    omega (arith, e, add-mul (h * 2 ^ k) v (2 ^ p))
+splice_form a p k v = grind (arith, common_steps, mul_pow)
 
 -- k bits are below 2^k
 pub bits_lt : (a p k : ℕ) → bits a p k < 2 ^ k
@@ -107,7 +109,7 @@ splice_up a p m k v =
 
 -- the place of a field lies in the places of n fields
 pub room : (i n w : ℕ) → i < n → i * w + w ≤ n * w
-room i n w h = omega (arith, mul-le-mul_right w h, suc-mul i w)
+room i n w h = grind (arith, common_steps, mul-le-mul_right)
 
 -- two numbers side by side
 pub cat_lt : (x v j k : ℕ) → x < 2 ^ j → v < 2 ^ k → x * 2 ^ k + v < 2 ^ (j + k)
@@ -142,7 +144,7 @@ splice_lt a p k v l h g f =
 pub mod_over : (z y j k : ℕ) → j ≤ k → (z * 2 ^ k + y) % 2 ^ j ≡ y % 2 ^ j
 mod_over z y j k h =
     let e : (k - j) + j ≡ k = omega arith in
-    let m : z * 2 ^ k ≡ z * 2 ^ (k - j) * 2 ^ j = ap (λ (u : ℕ). z * 2 ^ u) (sym e) ∙ ap (λ (u : ℕ). z * u) (pow-add 2 (k - j) j) ∙ sym (mul_assoc z (2 ^ (k - j)) (2 ^ j)) in
+    let m : z * 2 ^ k ≡ z * 2 ^ (k - j) * 2 ^ j = ap (λ (u : ℕ). z * 2 ^ u) (sym e) ∙ pow_parts z (k - j) j in
     let s : z * 2 ^ k + y ≡ (z * 2 ^ (k - j) + y / 2 ^ j) * 2 ^ j + y % 2 ^ j = omega (arith, m, split y j, add-mul (z * 2 ^ (k - j)) (y / 2 ^ j) (2 ^ j)) in
     ap (λ (u : ℕ). u % 2 ^ j) s ∙ low (z * 2 ^ (k - j) + y / 2 ^ j) j (mod-lt y (pow_pos j))
 

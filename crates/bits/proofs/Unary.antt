@@ -1,5 +1,5 @@
 -- Unary marks: the sizes in a number, and the number of some sizes.
-use Rattle.std.proofs.Common.{◌≡◌, ℕ, zero, suc, ◌+◌, ◌-◌, ◌*◌, ◌/◌, ◌%◌, ◌^◌, ◌<◌, ◌≤◌, eqb, List, [], ◌∷◌, ◌++◌, length, get_or, take, drop, set, sum, sym, refl, ap, ◌∙◌, subst, ap₂, ⊎_elim, le_refl, lt_of_lt_of_le, mod-eq_of_lt, mul_assoc, add-mul, zero-mul, div-one, arith, lit<, take-append-drop, length-take-le, drop-cons, pow_pos, pow_mono, pow-add, shr-shr}
+use Rattle.std.proofs.Common.{◌≡◌, ℕ, zero, suc, ◌+◌, ◌-◌, ◌*◌, ◌/◌, ◌%◌, ◌^◌, ◌<◌, ◌≤◌, eqb, List, [], ◌∷◌, ◌++◌, length, get_or, take, drop, set, sum, sym, refl, ap, ◌∙◌, subst, ap₂, ⊎_elim, le_refl, lt_of_lt_of_le, mod-eq_of_lt, add-mul, zero-mul, div-one, arith, lit<, take-append-drop, length-take-le, drop-cons, pow_pos, pow_mono, pow-add, shr-shr}
 use native.Mathlib.Nat.{div-eq_of_lt}
 use lib.Arith.{digits_lt}
 use lib.Seq.{set_split, set-get_or}
@@ -10,7 +10,7 @@ use Rattle.std.proofs.lemmas.Bool.{cases_eq, cond-true, cond-false, eq-eqb, ne_e
 use Rattle.bits.specs.Area.{number, bits}
 use Rattle.bits.specs.Marks.{marks, mark_words, run, sizes, begins, size_of, ends, bit_out, one_more, one_less}
 use Rattle.bits.proofs.Numbers.{number_words_fit}
-use Rattle.bits.proofs.Splices.{mod_over}
+use Rattle.bits.proofs.Splices.{pow_parts, mul_pow, mod_over}
 use Rattle.bits.proofs.Runs.{ones_under, run_at, rest_at, run_split}
 
 -- the sum of a list, from its front
@@ -40,7 +40,7 @@ marks_append [] ys = omega arith
 marks_append (s ∷ xs) ys =
     let a = marks ys in
     let e : a * 2 ^ span xs * 2 ^ (s + 1) ≡ a * 2 ^ span (s ∷ xs) =
-    mul_assoc a (2 ^ span xs) (2 ^ (s + 1)) ∙ ap (λ (u : ℕ). a * u) (sym (pow-add 2 (span xs) (s + 1)) ∙ ap (λ (u : ℕ). 2 ^ u) (sym (span_cons s xs))) in
+    sym (pow_parts a (span xs) (s + 1)) ∙ ap (λ (u : ℕ). a * 2 ^ u) (sym (span_cons s xs)) in
     ap (λ (u : ℕ). u * 2 ^ (s + 1) + (2 ^ s - 1)) (marks_append xs ys)
     ∙ omega (arith, e, add-mul (a * 2 ^ span xs) (marks xs) (2 ^ (s + 1)))
 
@@ -80,7 +80,7 @@ marks_split (suc n) m =
     let z = marks (sizes n k) in
     let i : k ≡ q * 2 ^ b + z = marks_split n k in
     let i2 : k * 2 ^ r ≡ q * 2 ^ b * 2 ^ r + z * 2 ^ r = ap (λ (u : ℕ). u * 2 ^ r) i ∙ add-mul (q * 2 ^ b) z (2 ^ r) in
-    let p : q * 2 ^ (r + b) ≡ q * 2 ^ b * 2 ^ r = let c : r + b ≡ b + r = omega arith in ap (λ (u : ℕ). q * 2 ^ u) c ∙ ap (λ (u : ℕ). q * u) (pow-add 2 b r) ∙ sym (mul_assoc q (2 ^ b) (2 ^ r)) in
+    let p : q * 2 ^ (r + b) ≡ q * 2 ^ b * 2 ^ r = let c : r + b ≡ b + r = omega arith in ap (λ (u : ℕ). q * 2 ^ u) c ∙ pow_parts q b r in
     let t : m ≡ q * 2 ^ (r + b) + (z * 2 ^ r + (2 ^ run m - 1)) = omega (arith, run_split m, i2, p) in
     t ∙ ap₂ (λ (u v : ℕ). u * 2 ^ v + (z * 2 ^ r + (2 ^ run m - 1))) (sym (from_suc n m)) (sym (begins_suc n m))
 
@@ -128,7 +128,7 @@ unfolding marks sizes
 sizes_over [] z = refl
 sizes_over (s ∷ ss) z =
     let y = z * 2 ^ span ss + marks ss in
-    let p : z * 2 ^ span (s ∷ ss) ≡ z * 2 ^ span ss * 2 ^ (s + 1) = ap (λ (u : ℕ). z * 2 ^ u) (span_cons s ss) ∙ ap (λ (u : ℕ). z * u) (pow-add 2 (span ss) (s + 1)) ∙ sym (mul_assoc z (2 ^ span ss) (2 ^ (s + 1))) in
+    let p : z * 2 ^ span (s ∷ ss) ≡ z * 2 ^ span ss * 2 ^ (s + 1) = ap (λ (u : ℕ). z * 2 ^ u) (span_cons s ss) ∙ pow_parts z (span ss) (s + 1) in
     let e : z * 2 ^ span (s ∷ ss) + (marks ss * 2 ^ (s + 1) + (2 ^ s - 1)) ≡ y * 2 ^ (s + 1) + (2 ^ s - 1) = omega (arith, p, add-mul (z * 2 ^ span ss) (marks ss) (2 ^ (s + 1))) in
     let r : run (z * 2 ^ span (s ∷ ss) + (marks ss * 2 ^ (s + 1) + (2 ^ s - 1))) ≡ s = ap run e ∙ run_at y s in
     ap₂ (λ (x : ℕ) (xs : List ℕ). x ∷ xs) r
@@ -202,7 +202,7 @@ slot_zero m j =
     let k = m / 2 ^ b in
     let s = run k in
     let hi = k / 2 ^ (s + 1) in
-    let two : hi * 2 ^ (s + 1) ≡ hi * 2 * 2 ^ s = let f : 2 ^ s * 2 ≡ 2 * 2 ^ s = omega arith in ap (λ (u : ℕ). hi * u) (pow-add 2 s 1 ∙ f) ∙ sym (mul_assoc hi 2 (2 ^ s)) in
+    let two : hi * 2 ^ (s + 1) ≡ hi * 2 * 2 ^ s = mul_pow hi s 1 in
     let k_is : k ≡ hi * 2 * 2 ^ s + (2 ^ s - 1) = omega (arith, run_split k, two) in
     let d : k / 2 ^ s ≡ hi * 2 = ap (λ (u : ℕ). u / 2 ^ s) k_is ∙ high (hi * 2) s (ones_lt s) in
     ap (λ (u : ℕ). u % 2 ^ 1) (sym (shr-shr m b s) ∙ d) ∙ omega arith
@@ -218,7 +218,7 @@ size_up : (s : ℕ) (ys : List ℕ) → marks ((s + 1) ∷ ys) ≡ marks (s ∷ 
 unfolding marks
 size_up s ys =
     let a = marks ys in
-    let e : a * 2 ^ (s + 1 + 1) ≡ a * 2 ^ (s + 1) * 2 = ap (λ (u : ℕ). a * u) (pow-add 2 (s + 1) 1) ∙ sym (mul_assoc a (2 ^ (s + 1)) 2) in
+    let e : a * 2 ^ (s + 1 + 1) ≡ a * 2 ^ (s + 1) * 2 = pow_parts a (s + 1) 1 in
     let t : 2 ^ (s + 1) ≡ 2 ^ s * 2 = pow-add 2 s 1 in
     omega (arith, e, t, pow_pos s)
 

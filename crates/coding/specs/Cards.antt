@@ -1,19 +1,27 @@
 -- Which barrier cards exist, and their numbers.
 --
--- card_exists   whether there is such a card
--- card_number   the number of a card that exists
--- card_item     the card that has a number
-use Rattle.std.specs.Prelude.{ℕ, Bool, cond, ◌&&◌, Some, None, Option, nat_le}
+-- first_card, last_card   the cards are those from the one to the other
+-- card_exists             whether there is such a card
+-- card_number             the number of a card that exists
+-- card_item               the card that has a number
+use Rattle.std.specs.Prelude.{ℕ, Bool, Option}
+use Rattle.coding.specs.Ranged.{in_range, ranged_number, ranged_item}
 use Rattle.coding.specs.declared.items.Card.{Card}
 
 -- cards are 1 to 4,294,967,295
+abbrev pub first_card : ℕ
+first_card = 1
+
+abbrev pub last_card : ℕ
+last_card = 4294967295
+
 abbrev pub card_exists : ℕ → Bool
-card_exists n = nat_le 1 n && nat_le n 4294967295
+card_exists = in_range first_card last_card
 
 -- a card's number is the one printed on it
 abbrev pub card_number : Card → Option ℕ
-card_number x = cond (card_exists x.number) (Some x.number) None
+card_number = ranged_number first_card last_card (λ x. x.number)
 
 -- the card on which the number is printed
 abbrev pub card_item : ℕ → Option Card
-card_item n = cond (card_exists n) (Some (record { number = n })) None
+card_item = ranged_item first_card last_card (λ n. record { number = n })

@@ -2,3 +2,4 @@ pub mod Bookings
 pub mod Cards
 pub mod Loans
 pub mod Nights
+pub mod Ranged

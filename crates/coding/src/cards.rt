@@ -1,55 +1,46 @@
 //! Barrier cards in 32 bits: a card's number is the one printed on it.
-ghost use Rattle.coding.specs.Cards.{card_item, card_number};
+ghost use Rattle.coding.specs.Cards.{first_card, last_card};
 ghost use Rattle.std.proofs.Common.{rules};
 
-use crate::Coding;
 use crate::items::Card;
-
-/// How many bits the number of a card has.
-const WIDTH: u32 = 32;
-/// The first card; there is no card 0.
-const FIRST_CARD: u64 = 1;
-/// The last card, 2^32 - 1.
-const LAST_CARD: u64 = 4_294_967_295;
+use crate::ranged::Ranged;
 
 /// The cards 1 to 4,294,967,295.
 #[derive(Clone, Copy)]
 pub struct CardCoding;
 
-impl Coding for CardCoding {
+impl Ranged for CardCoding {
     type Item = Card;
 
-    ghost width = { λ _. 32 };
+    ghost WIDTH = { 32 };
 
-    ghost number = { λ _. card_number };
+    ghost FIRST = { first_card };
 
-    ghost item = { λ _. card_item };
+    ghost LAST = { last_card };
+
+    ghost number_of = { λ x. x.number };
+
+    ghost item_of = { λ n. record { number = n } };
 
     ghost narrow = { Prim.search rules };
 
-    ghost below = { Prim.search rules };
+    ghost within = { Prim.search rules };
 
     ghost back = { Prim.search rules };
 
     ghost forth = { Prim.search rules };
 
-    fn width(&self) -> u32 {
-        WIDTH
+    const WIDTH: u32 = 32;
+    /// There is no card 0.
+    const FIRST: u64 = 1;
+    /// 2^32 - 1.
+    const LAST: u64 = 4_294_967_295;
+
+    fn number_of(x: Card) -> u64 {
+        x.number
     }
 
-    fn number(&self, x: Card) -> Option<u64> {
-        if x.number >= FIRST_CARD && x.number <= LAST_CARD {
-            Some(x.number)
-        } else {
-            None
-        }
-    }
-
-    fn item(&self, n: u64) -> Option<Card> {
-        if n >= FIRST_CARD && n <= LAST_CARD {
-            Some(Card { number: n })
-        } else {
-            None
-        }
+    fn item_of(n: u64) -> Card {
+        Card { number: n }
     }
 }

@@ -7,8 +7,10 @@ ghost use Rattle.std.specs.Prelude.{◌≡◌, ℕ, ◌^◌, ◌<◌, ◌≤◌,
 pub mod bookings;
 pub mod cards;
 pub mod items;
+pub mod laws;
 pub mod loans;
 pub mod nights;
+mod ranged;
 
 pub use bookings::BookingCoding;
 pub use cards::CardCoding;

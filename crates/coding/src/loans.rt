@@ -39,17 +39,12 @@ impl Coding for LoanCoding {
             pitch: x.pitch,
             night: x.last,
         };
-        let Some(n) = NightCoding.number(until) else {
-            return None;
-        };
+        let n = NightCoding.number(until)?;
         Some(2 * n + u64::from(x.paid))
     }
 
     fn item(&self, n: u64) -> Option<Loan> {
-        let Some(until) = NightCoding.item(n / 2) else {
-            return None;
-        };
-        Some(Loan {
+        NightCoding.item(n / 2).map(|until| Loan {
             pitch: until.pitch,
             last: until.night,
             paid: n % 2 == 1,

@@ -1,11 +1,12 @@
 -- XOR with a shift: the sums of shifts telescope, in both orders.
 use Rattle.std.specs.Prelude.{◌≡◌, ℕ, zero, suc, ◌+◌, ◌*◌, ◌/◌, ◌^◌, ◌<◌, ◌≤◌, cond, bit_xor, nat_lt, refl}
-use Rattle.std.proofs.Common.{sym, ap, ap₂, ◌∙◌, ⊎_elim, zero-mul, suc-mul, div-one, add_comm, le-mul_of_pos_right, add-one, arith, pow_pos, pow_mono, shr-shr}
+use Rattle.std.proofs.Common.{sym, ap, ap₂, ◌∙◌, ⊎_elim, zero-add, zero-mul, suc-mul, div-one, add_comm, le_trans, mul-le-mul_right, le-mul_of_pos_right, add-one, arith, pow_pos, pow_mono, shr-shr}
 use Rattle.std.proofs.Math.Nat.{zero-div, div-eq_of_lt}
 use Rattle.std.specs.Int.Bits.{xor_assoc, xor_self, xor_zero_l, xor_zero_r}
 use Rattle.std.proofs.lemmas.Nat.{xor_comm, xor_lt, xor_shr, shr_le}
 use Rattle.std.proofs.lemmas.Bool.{cases_lt, lt-ltb, le-ltb, cond-true, cond-false}
-use Rattle.permutation.specs.Formulas.{xor_below}
+use Rattle.permutation.specs.Formulas.{xor_below, xor_shift_back}
+use Rattle.permutation.specs.Below.{below_in}
 
 -- two pairs, the inner two exchanged
 xor_exchange : (a b c d : ℕ) → bit_xor (bit_xor a b) (bit_xor c d) ≡ bit_xor (bit_xor a c) (bit_xor b d)
@@ -89,14 +90,31 @@ xor_below_more : (j : ℕ) (f : ℕ → ℕ) → xor_below (j + 1) f ≡ bit_xor
 unfolding xor_below
 xor_below_more j f = ap (λ (i : ℕ). xor_below i f) (add-one j)
 
--- a turn of the way back that takes a term in
-pub turn_in : (k s y j found next : ℕ) → j * s < k → found ≡ xor_below j (term k s y) → next ≡ bit_xor found (y / 2 ^ (j * s)) → next ≡ xor_below (j + 1) (term k s y)
-turn_in k s y j found next l e n = n ∙ ap₂ bit_xor e (sym (term_in k s y j l)) ∙ sym (xor_below_more j (term k s y))
+-- a turn of the way back takes one term in
+pub turn_in : (k s y j shift found : ℕ) → shift ≡ j * s → shift < k → found ≡ xor_below j (term k s y) → bit_xor found (y / 2 ^ shift) ≡ xor_below (j + 1) (term k s y)
+turn_in k s y j shift found at l e =
+    ap₂ bit_xor e (ap (λ (n : ℕ). y / 2 ^ n) at ∙ sym (term_in k s y j (omega (arith, l, at)))) ∙ sym (xor_below_more j (term k s y))
 
--- a turn that takes none in
-pub turn_out : (k s y j found next : ℕ) → k ≤ j * s → found ≡ xor_below j (term k s y) → next ≡ found → next ≡ xor_below (j + 1) (term k s y)
-turn_out k s y j found next l e n =
-    n ∙ e ∙ sym (xor_below_more j (term k s y) ∙ ap (bit_xor (xor_below j (term k s y))) (term_out k s y j l) ∙ xor_zero_r (xor_below j (term k s y)))
+-- after a shift of k or more no further term counts
+rest_out : (k s y j : ℕ) → k ≤ j * s → (i : ℕ) → xor_below (i + j) (term k s y) ≡ xor_below j (term k s y)
+unfolding xor_below
+rest_out k s y j h zero = ap (λ (n : ℕ). xor_below n (term k s y)) (zero-add j)
+rest_out k s y j h (suc i) =
+    ap (λ (n : ℕ). xor_below n (term k s y)) one_more
+    ∙ ap (bit_xor (xor_below (i + j) (term k s y))) (term_out k s y (i + j) (le_trans h (mul-le-mul_right s later)))
+    ∙ xor_zero_r (xor_below (i + j) (term k s y)) ∙ rest_out k s y j h i
+  where
+    one_more : suc i + j ≡ suc (i + j)
+    one_more = omega arith
+
+    later : j ≤ i + j
+    later = omega arith
+
+-- so the terms up to there are the way back
+pub turns_all : (k s y j found : ℕ) → y < 2 ^ k → 1 ≤ s → k ≤ j * s → found ≡ xor_below j (term k s y) → found ≡ xor_shift_back k s y
+turns_all k s y j found h moves l e =
+    e ∙ sym (rest_out k s y j l k) ∙ ap (λ (n : ℕ). xor_below n (term k s y)) (add_comm k j) ∙ rest_out k s y k (le-mul_of_pos_right k moves) j
+    ∙ sym (below_in k (λ x. xor_below k (term k s x)) y h)
 
 module _ (k s : ℕ) (moves : 1 ≤ s) where
   -- there keeps below 2^k

@@ -2,38 +2,35 @@ ghost use Rattle.std.specs.Prelude.{◌≡◌, ◌+◌, ◌-◌, ◌*◌, ◌%�
 ghost use Rattle.permutation.specs.Formulas.{affine_forth, affine_back, Inverse, inverse_of};
 ghost use Rattle.permutation.specs.Refusals.{affine_refusal};
 ghost use Rattle.std.specs.Result.{result_err};
-ghost use Rattle.std.proofs.Common.{mod-lt, pow_pos, rules, arith};
+ghost use Rattle.std.proofs.Common.{mod-lt, pow_pos, rules};
 ghost use Rattle.permutation.specs.Below.{below_returns};
 ghost use Rattle.permutation.specs.Modulo.{affine_returns, affine_arrives};
 
 use crate::Permutation;
 use crate::refusal::SetUpRefusal;
-use crate::width::{fits, size};
+use crate::width::Width;
 
 /// A multiplication by an odd number and an addition, both by 2^width.
 #[derive(Clone, Copy)]
 pub struct Affine {
-    width: u32,
+    width: Width,
     multiplier: u64,
     increment: u64,
     inverse: u64,
-    ghost some: { 1 ≤ width },
-    ghost narrow: { width ≤ 32 },
-    ghost factor: { multiplier < 2 ^ width },
-    ghost summand: { increment < 2 ^ width },
-    ghost inverts: { Inverse width multiplier inverse },
+    ghost factor: { multiplier < 2 ^ width.bits },
+    ghost summand: { increment < 2 ^ width.bits },
+    ghost inverts: { Inverse width.bits multiplier inverse },
 }
 
 impl Affine {
     /// Multiplies by an odd multiplier and adds the increment, both below 2^width.
+    #[tactic(auto, using(crate::proofs::Inverses::inverse_is))]
     pub fn new(width: u32, multiplier: u64, increment: u64) -> Result<Affine, SetUpRefusal>
         ensures refused { result_err result ≡ affine_refusal width multiplier increment }
-        ensures made { IfOk result (λ p. (p.width ≡ width) × (p.multiplier ≡ multiplier) × (p.increment ≡ increment) × Inverse width multiplier p.inverse × (p.inverse ≡ inverse_of width multiplier)) }
+        ensures made { IfOk result (λ p. (p.width.bits ≡ width) × (p.multiplier ≡ multiplier) × (p.increment ≡ increment) × Inverse width multiplier p.inverse × (p.inverse ≡ inverse_of width multiplier)) }
     {
-        if !fits(width) {
-            return Err(SetUpRefusal::Width);
-        }
-        let size = size(width);
+        let width = Width::new(width)?;
+        let size = width.size();
         if multiplier % 2 == 0 || multiplier >= size {
             return Err(SetUpRefusal::Multiplier);
         }
@@ -50,21 +47,22 @@ impl Affine {
     }
 
     /// What the way back multiplies by: its product with the multiplier leaves 1 by 2^width.
+    #[tactic(auto, using(crate::proofs::Inverses::inverse_is))]
     pub fn inverse(&self) -> u64
-        ensures value { result ≡ inverse_of self.now.width self.now.multiplier }
-        ensures inverts { Inverse self.now.width self.now.multiplier result }
+        ensures value { result ≡ inverse_of self.now.width.bits self.now.multiplier }
+        ensures inverts { Inverse self.now.width.bits self.now.multiplier result }
     {
         self.inverse
     }
 }
 
 /// The inverse of an odd number by 2^width, found bit by bit.
-fn invert(width: u32, odd: u64) -> u64
-    requires { (1 ≤ width) × ((width ≤ 32) × ((odd < 2 ^ width) × (odd % 2 ≡ 1))) }
-    ensures { Inverse width odd result }
+fn invert(width: Width, odd: u64) -> u64
+    requires { (odd < 2 ^ width.bits) × (odd % 2 ≡ 1) }
+    ensures { Inverse width.bits odd result }
 {
     let mut inverse = 1;
-    for bit in 1..width {
+    for bit in 1..width.bits() {
         // the product leaves 1 by 2^bit: where its next bit is set, one more bit of the inverse clears it
         if ((odd * inverse) >> bit) % 2 == 1 {
             inverse += 1 << bit;
@@ -74,40 +72,40 @@ fn invert(width: u32, odd: u64) -> u64
 }
 
 impl Permutation for Affine {
-    ghost width = { λ p. p.width };
+    ghost width = { λ p. p.width.bits };
 
-    ghost forth = { λ p. affine_forth p.width p.multiplier p.increment };
+    ghost forth = { λ p. affine_forth p.width.bits p.multiplier p.increment };
 
-    ghost back = { λ p. affine_back p.width p.inverse p.increment };
+    ghost back = { λ p. affine_back p.width.bits p.inverse p.increment };
 
-    ghost some = { first_of (Prim.search rules, Prim.grind (arith, Self.row.coded.inj)) };
+    ghost some = { Prim.search rules };
 
-    ghost narrow = { first_of (Prim.search rules, Prim.grind (arith, Self.row.coded.inj)) };
+    ghost narrow = { Prim.search rules };
 
-    ghost within = { first_of (Prim.search rules, Prim.grind (arith, Self.row.coded.inj)) };
+    ghost within = { Prim.search rules };
 
-    ghost inside = { first_of (Prim.search rules, Prim.grind (arith, Self.row.coded.inj)) };
+    ghost inside = { Prim.search rules };
 
     ghost returns = { λ p.
-        below_returns p.width (λ n. (p.multiplier * n + p.increment) % 2 ^ p.width) (λ y. p.inverse * (y + 2 ^ p.width - p.increment) % 2 ^ p.width)
-        (λ n _. mod-lt (p.multiplier * n + p.increment) (pow_pos p.width))
-        (affine_returns p.multiplier p.inverse p.increment (2 ^ p.width) p.summand p.inverts.1) };
+        below_returns p.width.bits (λ n. (p.multiplier * n + p.increment) % 2 ^ p.width.bits) (λ y. p.inverse * (y + 2 ^ p.width.bits - p.increment) % 2 ^ p.width.bits)
+        (λ n _. mod-lt (p.multiplier * n + p.increment) (pow_pos p.width.bits))
+        (affine_returns p.multiplier p.inverse p.increment (2 ^ p.width.bits) p.summand p.inverts.1) };
 
     ghost arrives = { λ p.
-        below_returns p.width (λ y. p.inverse * (y + 2 ^ p.width - p.increment) % 2 ^ p.width) (λ n. (p.multiplier * n + p.increment) % 2 ^ p.width)
-        (λ y _. mod-lt (p.inverse * (y + 2 ^ p.width - p.increment)) (pow_pos p.width))
-        (affine_arrives p.multiplier p.inverse p.increment (2 ^ p.width) p.summand p.inverts.1) };
+        below_returns p.width.bits (λ y. p.inverse * (y + 2 ^ p.width.bits - p.increment) % 2 ^ p.width.bits) (λ n. (p.multiplier * n + p.increment) % 2 ^ p.width.bits)
+        (λ y _. mod-lt (p.inverse * (y + 2 ^ p.width.bits - p.increment)) (pow_pos p.width.bits))
+        (affine_arrives p.multiplier p.inverse p.increment (2 ^ p.width.bits) p.summand p.inverts.1) };
 
-    ghost beyond = { first_of (Prim.search rules, Prim.grind (arith, Self.row.coded.inj)) };
+    ghost beyond = { Prim.search rules };
 
-    ghost outside = { first_of (Prim.search rules, Prim.grind (arith, Self.row.coded.inj)) };
+    ghost outside = { Prim.search rules };
 
     fn width(&self) -> u32 {
-        self.width
+        self.width.bits()
     }
 
     fn forth(&self, n: u64) -> u64 {
-        let size = size(self.width);
+        let size = self.width.size();
         if n < size {
             (self.multiplier * n + self.increment) % size
         } else {
@@ -116,7 +114,7 @@ impl Permutation for Affine {
     }
 
     fn back(&self, y: u64) -> u64 {
-        let size = size(self.width);
+        let size = self.width.size();
         if y < size {
             (self.inverse * ((y + size - self.increment) % size)) % size
         } else {

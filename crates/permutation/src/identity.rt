@@ -1,58 +1,55 @@
-ghost use Rattle.std.specs.Prelude.{◌≡◌, ◌≤◌, IfOk};
+ghost use Rattle.std.specs.Prelude.{◌≡◌, IfOk};
 ghost use Rattle.permutation.specs.Refusals.{identity_refusal};
 ghost use Rattle.std.specs.Result.{result_err};
-ghost use Rattle.std.proofs.Common.{rules, arith};
+ghost use Rattle.std.proofs.Common.{rules};
 
 use crate::Permutation;
 use crate::refusal::SetUpRefusal;
-use crate::width::fits;
+use crate::width::Width;
 
 /// Every number stays as it is.
 #[derive(Clone, Copy)]
 pub struct Identity {
-    width: u32,
-    ghost some: { 1 ≤ width },
-    ghost narrow: { width ≤ 32 },
+    width: Width,
 }
 
 impl Identity {
     /// The identity of a width from 1 to 32.
     pub fn new(width: u32) -> Result<Identity, SetUpRefusal>
         ensures refused { result_err result ≡ identity_refusal width }
-        ensures made { IfOk result (λ p. p.width ≡ width) }
+        ensures made { IfOk result (λ p. p.width.bits ≡ width) }
     {
-        if !fits(width) {
-            return Err(SetUpRefusal::Width);
-        }
-        Ok(Identity { width })
+        Ok(Identity {
+            width: Width::new(width)?,
+        })
     }
 }
 
 impl Permutation for Identity {
-    ghost width = { λ p. p.width };
+    ghost width = { λ p. p.width.bits };
 
     ghost forth = { λ _ n. n };
 
     ghost back = { λ _ n. n };
 
-    ghost some = { first_of (Prim.search rules, Prim.grind (arith, Self.row.coded.inj)) };
+    ghost some = { Prim.search rules };
 
-    ghost narrow = { first_of (Prim.search rules, Prim.grind (arith, Self.row.coded.inj)) };
+    ghost narrow = { Prim.search rules };
 
-    ghost within = { first_of (Prim.search rules, Prim.grind (arith, Self.row.coded.inj)) };
+    ghost within = { Prim.search rules };
 
-    ghost inside = { first_of (Prim.search rules, Prim.grind (arith, Self.row.coded.inj)) };
+    ghost inside = { Prim.search rules };
 
-    ghost returns = { first_of (Prim.search rules, Prim.grind (arith, Self.row.coded.inj)) };
+    ghost returns = { Prim.search rules };
 
-    ghost arrives = { first_of (Prim.search rules, Prim.grind (arith, Self.row.coded.inj)) };
+    ghost arrives = { Prim.search rules };
 
-    ghost beyond = { first_of (Prim.search rules, Prim.grind (arith, Self.row.coded.inj)) };
+    ghost beyond = { Prim.search rules };
 
-    ghost outside = { first_of (Prim.search rules, Prim.grind (arith, Self.row.coded.inj)) };
+    ghost outside = { Prim.search rules };
 
     fn width(&self) -> u32 {
-        self.width
+        self.width.bits()
     }
 
     fn forth(&self, n: u64) -> u64 {

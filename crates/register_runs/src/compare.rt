@@ -70,8 +70,6 @@ pub fn compare<M: Machine>(
 pub fn ended(rt: &HostRuntime, what: &str, part: &Tally, total: &mut Tally) -> io::Result<()> {
     total.cases = total.cases.saturating_add(part.cases);
     total.wrong = total.wrong.saturating_add(part.wrong);
-    if total.first == 0 {
-        total.first = part.first;
-    }
+    total.first = total.first.or(part.first);
     part.show(rt, what)
 }

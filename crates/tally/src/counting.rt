@@ -1,5 +1,5 @@
 ghost use Rattle.tally.specs.Counted.{counted};
-ghost use Rattle.std.specs.Prelude.{◌≡◌, false, ◌==◌};
+ghost use Rattle.std.specs.Prelude.{◌≡◌, false, ◌==◌, None};
 
 use crate::tally::Tally;
 use std::{fmt, io};
@@ -7,12 +7,12 @@ use std::{fmt, io};
 impl Tally {
     /// Nothing counted yet.
     pub fn new() -> Tally
-        ensures value { result ≡ record { cases = 0; wrong = 0; first = 0 } }
+        ensures value { result ≡ record { cases = 0; wrong = 0; first = None } }
     {
         Tally {
             cases: 0,
             wrong: 0,
-            first: 0,
+            first: None,
         }
     }
 
@@ -23,7 +23,7 @@ impl Tally {
         self.cases = self.cases.saturating_add(1);
         if !right {
             if self.wrong == 0 {
-                self.first = self.cases;
+                self.first = Some(self.cases);
             }
             self.wrong = self.wrong.saturating_add(1);
         }
@@ -58,14 +58,12 @@ impl fmt::Display for Tally {
     fn fmt<W: fmt::Write>(&self, f: &mut fmt::Formatter<W>) -> fmt::Result {
         let cases = self.cases;
         let wrong = self.wrong;
-        let first = self.first;
-        if wrong == 0 {
-            write!(f, "{cases} cases, 0 wrong")
-        } else {
-            write!(
+        match self.first {
+            None => write!(f, "{cases} cases, {wrong} wrong"),
+            Some(first) => write!(
                 f,
                 "{cases} cases, {wrong} wrong, the first of them case {first}"
-            )
+            ),
         }
     }
 }

@@ -1,10 +1,7 @@
-use Rattle.std.proofs.Common.{◌-◌, ◌≤◌}
+use Rattle.std.proofs.Common.{◌+◌, ◌*◌, min}
 use Rattle.bits.specs.Area.{number}
 use Rattle.bits.proofs.Moves.{Lowered}
 use Rattle.bits.proofs.fields.lower.Given as goal
 
-abbrev pub invariant-loop-at : goal.invariant-loop-at
-invariant-loop-at l = (l.from ≤ l.at) × (l.at ≤ l.end) × Lowered (number l.area) (number l.initial.area) l.from l.at l.by
-
-abbrev pub decreases-loop-at : goal.decreases-loop-at
-decreases-loop-at l = l.end - l.at
+abbrev pub invariant-loop-part : goal.invariant-loop-part
+invariant-loop-part l = Lowered (number l.area) (number l.initial.area) l.from (min (l.from + 64 * l.part) l.end) l.by.bits

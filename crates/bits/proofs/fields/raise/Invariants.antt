@@ -1,10 +1,10 @@
-use Rattle.std.proofs.Common.{◌-◌, ◌≤◌}
+use Rattle.std.proofs.Common.{◌+◌, ◌*◌, min}
 use Rattle.bits.specs.Area.{number}
 use Rattle.bits.proofs.Moves.{Raised}
 use Rattle.bits.proofs.fields.raise.Given as goal
 
-abbrev pub invariant-loop-at : goal.invariant-loop-at
-invariant-loop-at l = (l.from ≤ l.at) × (l.at ≤ l.end) × Raised (number l.area) (number l.initial.area) l.at l.end l.by
+abbrev pub invariant-loop-part : goal.invariant-loop-part
+invariant-loop-part l = Raised (number l.area) (number l.initial.area) (min (l.from + 64 * l.part) l.end) l.end l.by.bits
 
-abbrev pub decreases-loop-at : goal.decreases-loop-at
-decreases-loop-at l = l.at - l.from
+abbrev pub decreases-loop-part : goal.decreases-loop-part
+decreases-loop-part l = l.part

@@ -1,4 +1,4 @@
-use Rattle.std.proofs.Common.{◌≡◌, ◌-◌, ◌*◌, min, max, length, ap, ◌∙◌}
+use Rattle.std.proofs.Common.{◌≡◌, ◌-◌, ◌*◌, min, max, length, ap, ◌∙◌, arith}
 use Rattle.bits.specs.Area.{number, words_of, field_removed}
 use Rattle.bits.proofs.Edits.{remove_all, remove_none}
 use Rattle.bits.proofs.fields.remove.Goals as goal
@@ -9,11 +9,11 @@ returns-then-index-count c = remove_none _ _ _ _ c.if-index-count.true (λ i. (c
 pub returns : goal.returns
 returns c =
     let ws = c.args.area.now in
-    let w = c.usable-width.result in
+    let w = c.of-width.result.bits in
     let n = c.args.count in
     let t = c.args.index in
-    let e : c.min-end.result ≡ min (n * w) (64 * length ws) = c.min-end.ensures ∙ ap (min (n * w)) c.bit_len.ensures in
-    let l : c.max-last.result ≡ max (c.min-end.result - w) (t * w) = c.max-last.ensures ∙ ap (λ u. max u (t * w)) c.saturating_sub.ensures in
-    remove_all ws c.lower.new.area _ w n t c.min-end.result c.max-last.result c.if-index-count.false e l
+    let e : c.min-end.result ≡ min (n * w) (64 * length ws) = omega (arith, c.min-end.ensures, c.bit_len.ensures, c.place.ensures) in
+    let l : c.max-last.result ≡ max (c.min-end.result - w) c.place-from.result = omega (arith, c.max-last.ensures, c.saturating_sub.ensures, c.bits.ensures) in
+    remove_all ws c.lower.new.area _ w n t c.place-from.result c.min-end.result c.max-last.result c.if-index-count.false c.place-from.ensures e l
     c.lower.auto.area c.lower.ensures c.write_bits.ensures
-    ∙ ap (λ u. words_of (length ws) (field_removed u n (number ws) t)) c.usable-width.ensures.value
+    ∙ ap (λ u. words_of (length ws) (field_removed u n (number ws) t)) c.of-width.ensures

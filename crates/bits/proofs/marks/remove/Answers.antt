@@ -1,4 +1,4 @@
-use Rattle.bits.proofs.Scans.{remove_none, taken, begins_in}
+use Rattle.bits.proofs.Scans.{taken, begins_in}
 use Rattle.bits.proofs.marks.remove.Goals as goal
 
 pub overflow_shr-result : goal.overflow_shr-result
@@ -6,9 +6,6 @@ overflow_shr-result c = begins_in c.args.word c.args.slot _ _ c.ranges.word.fits
 
 pub overflow_shl-result : goal.overflow_shl-result
 overflow_shl-result c = begins_in c.args.word c.args.slot _ _ c.ranges.word.fits c.size.ensures.value c.if-size-eq0.false c.begin-first.ensures.value
-
-pub returns-then-size-eq0 : goal.returns-then-size-eq0
-returns-then-size-eq0 c = remove_none c.args.word c.args.slot _ c.size.ensures.value c.if-size-eq0.true
 
 pub returns : goal.returns
 returns c =

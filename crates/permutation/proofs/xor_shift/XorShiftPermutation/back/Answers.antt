@@ -1,20 +1,28 @@
-use Rattle.std.proofs.Common.{refl}
+use Rattle.std.proofs.Common.{◌+◌, sym, refl, zero-mul, add-mul, arith}
 use Rattle.permutation.specs.Formulas.{xor_below}
-use Rattle.permutation.specs.Shifts.{turn_in, turn_out}
+use Rattle.permutation.specs.Shifts.{turn_in, turns_all}
 use Rattle.permutation.proofs.xor_shift.XorShiftPermutation.back.Goals as goal
-use Rattle.permutation.proofs.xor_shift.XorShiftPermutation.back.Goals.{then-shift-self, else-shift-self}
 
-pub loop-j-init : goal.loop-j-init
+pub loop-shift-init : goal.loop-shift-init
 unfolding xor_below
-loop-j-init c = refl
+loop-shift-init c = (0, sym (zero-mul c.args.self.now.shift), refl)
 
-pub loop-j-preserved : goal.loop-j-preserved
-loop-j-preserved c =
-    elim c.if-shift-self.branch [
-      | then-shift-self w ↦
-          turn_in c.args.self.now.width c.args.self.now.shift c.args.y c.loop-j.j c.loop-j.found c.if-shift-self.found
-          w.if-shift-self.true c.loop-j.invariant w.found-is
-      | else-shift-self w ↦
-          turn_out c.args.self.now.width c.args.self.now.shift c.args.y c.loop-j.j c.loop-j.found c.if-shift-self.found
-          w.if-shift-self.false c.loop-j.invariant w.found-is
-    ]
+pub loop-shift-preserved : goal.loop-shift-preserved
+loop-shift-preserved c =
+    let (j, at, found) = c.loop-shift.invariant in
+    let p = c.args.self.now in
+    (j + 1, omega (arith, at, add-mul j 1 p.shift), turn_in p.width.bits p.shift c.args.y j c.loop-shift.shift _ at (omega arith) found)
+
+pub returns-else-y-size : goal.returns-else-y-size
+returns-else-y-size c =
+    let (j, at, found) = c.loop-shift.invariant in
+    let p = c.args.self.now in
+    turns_all p.width.bits p.shift c.args.y j _ (omega (arith, c.size.ensures.value)) p.moves (omega (arith, at)) found
+
+-- the shift after this turn's is past the width
+pub returns-else-y-size-2 : goal.returns-else-y-size-2
+returns-else-y-size-2 c =
+    let (j, at, found) = c.loop-shift.invariant in
+    let p = c.args.self.now in
+    turns_all p.width.bits p.shift c.args.y (j + 1) _ (omega (arith, c.size.ensures.value)) p.moves
+    (omega (arith, at, add-mul j 1 p.shift)) (turn_in p.width.bits p.shift c.args.y j c.loop-shift.shift _ at (omega arith) found)

@@ -1,0 +1,18 @@
+-- Items that are one number from a first to a last, each with its own number.
+--
+-- in_range        whether a number is one from the first to the last
+-- ranged_number   the number of an item that is in the range
+-- ranged_item     the item in the range that has a number
+use Rattle.std.specs.Prelude.{ℕ, Bool, cond, ◌&&◌, Some, None, Option, nat_le}
+
+-- from the first to the last, with both
+abbrev pub in_range : (first last n : ℕ) → Bool
+in_range first last n = nat_le first n && nat_le n last
+
+-- an item's number is its own
+abbrev pub ranged_number : {T : Type 0} → (first last : ℕ) → (T → ℕ) → T → Option ℕ
+ranged_number first last number_of x = cond (in_range first last (number_of x)) (Some (number_of x)) None
+
+-- the item of that number
+abbrev pub ranged_item : {T : Type 0} → (first last : ℕ) → (ℕ → T) → ℕ → Option T
+ranged_item first last item_of n = cond (in_range first last n) (Some (item_of n)) None
