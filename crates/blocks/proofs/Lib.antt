@@ -1,0 +1,10 @@
+pub mod Called
+pub mod Refusing
+pub mod Places
+pub mod Adding
+pub mod Removing
+pub mod PlainJudged
+pub mod Gaps
+pub mod Scans
+pub mod PackedShapes
+pub mod PackedJudged
