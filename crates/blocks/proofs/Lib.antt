@@ -1,8 +1,10 @@
+pub mod Readable
+pub mod Weighing
 pub mod Called
 pub mod Refusing
-pub mod Places
-pub mod Adding
-pub mod Removing
+pub mod PlainPlaces
+pub mod PlainAdding
+pub mod PlainRemoving
 pub mod PlainJudged
 pub mod Gaps
 pub mod Scans

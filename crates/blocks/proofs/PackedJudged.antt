@@ -1,9 +1,10 @@
 -- What the tests of slots, areas and blocks decide.
-use Rattle.std.proofs.Common.{◌≡◌, ℕ, ◌+◌, ◌-◌, ◌*◌, ◌/◌, ◌%◌, ◌^◌, ◌<◌, ◌≤◌, Bool, true, false, List, [], ◌∷◌, ◌++◌, map, length, get_or, take, drop, None, Decides, sym, refl, ap, ◌∙◌, subst, ap₂, ⊎_elim, zero-mul, arith, pow_pos}
+use Rattle.std.proofs.Common.{◌≡◌, ℕ, ◌+◌, ◌-◌, ◌*◌, ◌/◌, ◌%◌, ◌^◌, ◌<◌, ◌≤◌, Bool, true, false, List, [], ◌∷◌, ◌++◌, map, length, get_or, take, drop, Some, None, Option, not, eqb, Decides, sym, refl, ap, ◌∙◌, subst, ap₂, ⊎_elim, zero-mul, arith, pow_pos}
 use native.Mathlib.Nat.{div-eq_of_lt}
 use lib.Pow.{split}
 use Rattle.std.specs.List.{range_with_len}
-use Rattle.std.proofs.lemmas.Bool.{cases_lt, le-leb}
+use Rattle.std.proofs.lemmas.Bool.{cases_lt, le-leb, eq-eqb}
+use Rattle.std.specs.Option.{option_eq}
 use Rattle.std.proofs.lemmas.Bool.Decides.{not_from_Decides}
 use Rattle.std.proofs.lemmas.List.{ext_get_or, length-map, get_or-map}
 use Rattle.std.proofs.lemmas.List.FromFn.{get_or-map-range_with_len}
@@ -15,7 +16,7 @@ use Rattle.bits.proofs.Packs.{packed_lt, packed_fields, length_fields, getD_fiel
 use Rattle.bits.proofs.Lists.{below_take, below_drop}
 use Rattle.bits.proofs.Splices.{bits_lt}
 use Rattle.table.specs.Meaning.{Good, total, value_in}
-use Rattle.table.specs.Places.{First}
+use Rattle.table.specs.Places.{First, Placed}
 use Rattle.table.specs.Checking.{Given}
 use Rattle.table.specs.Layout.{GoodGroup}
 use Rattle.table.proofs.Slots.{none_apart}
@@ -70,6 +71,11 @@ module _ (k v b : ℕ) (block : List ℕ) (mb : MarkedBlock k v b block) where
       -- it stands somewhere
       pub nowhere : value_in (get_or (slots_of 1 k v b block) j []) q ≡ None → ⊥
       nowhere e = none_apart (get_or (slots_of 1 k v b block) j []) q e i l (sym qe)
+
+      -- it is not found first at its own place
+      pub elsewhere : (o : Option ℕ) → Placed (get_or (slots_of 1 k v b block) j []) q o → true ≡ not (option_eq eqb o (Some i)) → Decides false (Good (k - b) v (get_or (slots_of 1 k v b block) j []))
+      elsewhere None p e = absurd (nowhere p)
+      elsewhere (Some first) p e = twice first p (λ same. let x = eq-eqb first i same in let z : ◌≡◌ {A = Bool} true false = e ∙ ap not x in let y : ◌≡◌ {A = ℕ} 0 1 = cc (z) in omega arith)
 
   -- ---- the areas
 

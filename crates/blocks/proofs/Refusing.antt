@@ -1,9 +1,9 @@
 -- What the calls answer where a slot, a quotient or a value is out of range, or the table is not formed.
-use Rattle.std.proofs.Common.{◌≡◌, ℕ, ◌+◌, ◌-◌, ◌^◌, ◌<◌, Bool, true, false, ◌&&◌, List, Some, None, [], Err, Option, nat_lt, slice_index_or, refl, sym, ap, ◌∙◌, pow_pos}
+use Rattle.std.proofs.Common.{◌≡◌, ℕ, ◌+◌, ◌-◌, ◌^◌, Bool, true, false, ◌&&◌, List, Some, None, [], Err, Option, nat_lt, slice_index_or, refl, sym, ap, ◌∙◌, pow_pos}
 use Rattle.std.proofs.lemmas.Bool.{lt-ltb}
 use Rattle.table.specs.declared.refusal.TableRefusal.{TableRefusal}
 use Rattle.table.specs.declared.shape.Shape.{Shape}
-use Rattle.table.specs.Meaning.{Meaning, has_slot, in_range, found, found_at, sized, sized_at, entered, entered_at, loaded, loaded_at, weigh_range, added, add_reply, admitted, removed_from, remove_at, load}
+use Rattle.table.specs.Meaning.{found, found_at, sized, sized_at, entered, entered_at, loaded, loaded_at, weigh_range, added, add_reply, admitted, removed_from, remove_at, load}
 use Rattle.table.specs.Layout.{Layout, content, meaning}
 use Rattle.blocks.specs.Spots.{Refused}
 

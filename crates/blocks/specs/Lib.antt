@@ -1,3 +1,4 @@
+pub mod Places
 pub mod PlainLayout
 pub mod PlainBlocks
 pub mod PlainLaws
@@ -9,5 +10,6 @@ pub mod Views
 pub mod Stored
 pub mod PackedLaws
 pub mod Means
+pub mod Slots
 pub mod Spots
 pub mod Standing

@@ -7,12 +7,12 @@
 --   chop                     a list cut into pieces of given sizes
 --   quotient_area, value_area, mark_number   the parts of a block
 --   pairs, slots_of          the fields of two areas side by side; the slots that a block reads as
---   with_areas, without_place   a block with other areas; a group without a place of a slot
+--   with_areas               a block with other areas
 --   fits                     which widths fit n words
 --   packed_table             the layout
 --   MarkedBlock              a block with the marks of some sizes, whatever its fields are
-use Rattle.std.specs.Prelude.{◌≡◌, ℕ, ◌+◌, ◌-◌, ◌*◌, ◌/◌, ◌^◌, Bool, ◌&&◌, List, [], ◌∷◌, ◌++◌, map, length, take, drop, sum, nat_le, slice_index, slice_index_or, slice_set}
-use Rattle.std.specs.List.{range_with_len, flat_map, remove}
+use Rattle.std.specs.Prelude.{◌≡◌, ℕ, ◌+◌, ◌-◌, ◌*◌, ◌/◌, ◌^◌, Bool, ◌&&◌, List, [], ◌∷◌, ◌++◌, map, length, take, drop, sum, nat_le, slice_index}
+use Rattle.std.specs.List.{range_with_len, flat_map}
 use Rattle.bits.specs.Area.{number, words_of, field, packed}
 use Rattle.bits.specs.Marks.{mark_words, sizes, Marked}
 use Rattle.table.specs.Widths.{bounded}
@@ -76,10 +76,6 @@ slots_of M k v b block =
 -- a block with other quotients and values, its marks as they are
 abbrev pub with_areas : (k v b : ℕ) → List ℕ → (A B : ℕ) → List ℕ
 with_areas k v b block A B = take 1 block ++ (words_of (room 1 (k - b)) A ++ words_of (room 1 v) B)
-
--- a group without the entry at place i of slot j
-abbrev pub without_place : List (List (ℕ × ℕ)) → (j i : ℕ) → List (List (ℕ × ℕ))
-without_place G j i = slice_set G j (remove (slice_index_or G j []) i)
 
 -- which widths fit n words: b from 4 to 20, and a block for each of the 2^(b-4) groups
 unfoldable pub fits : (n k v b : ℕ) → Bool

@@ -17,7 +17,8 @@ use Rattle.table.specs.Layout.{GoodGroup, group_added, group_reply, group_remove
 use Rattle.table.specs.Checking.{Given}
 use Rattle.table.proofs.Slots.{first_value, first_without}
 use Rattle.table.proofs.Calls.{good_added, good_taken}
-use Rattle.blocks.specs.PackedLayout.{room, entries, block_of, quotient_area, value_area, with_areas, without_place, slots_of, packed_table, MarkedBlock}
+use Rattle.blocks.specs.Places.{without_place}
+use Rattle.blocks.specs.PackedLayout.{room, entries, block_of, quotient_area, value_area, with_areas, slots_of, packed_table, MarkedBlock}
 use Rattle.blocks.specs.Entries.{sum_sizes, length_entries, insert_entry, remove_entry, map_inserted, map_removed}
 use Rattle.blocks.specs.Areas.{few, quotients_below, values_below, marks_fit, block_is, first_word, block_long, quotient_number, value_number, read_back}
 use Rattle.blocks.specs.Views.{load_is, before_here, size_here}

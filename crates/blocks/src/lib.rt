@@ -7,6 +7,7 @@ pub mod as_table;
 mod kind;
 pub mod packed;
 pub mod plain;
+mod slot;
 pub mod state;
 
 pub use packed::Packed;

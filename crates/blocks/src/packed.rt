@@ -1,17 +1,20 @@
 //! The packed kind: a group of 16 slots to a block of words, which holds unary marks, packed quotients and packed values.
 ghost use Rattle.std.specs.Prelude.{refl};
-ghost use Rattle.blocks.specs.PackedLayout.{packed_table};
+ghost use Rattle.blocks.specs.PackedLayout.{packed_table, MarkedBlock};
+ghost use Rattle.blocks.specs.Stored.{marked_given};
 ghost use Rattle.blocks.specs.PackedLaws.{packed_laws, fit_law, some_room};
 
 use crate::kind::Blocks;
 use crate::packed::parts::{LIMIT, SLOTS};
-use table::refusal::TableRefusal;
+use crate::slot::Slot;
+use bits::marks;
+use std::marker::PhantomData;
 use table::shape::Shape;
 
-mod block;
 mod change;
 mod judge;
 mod parts;
+mod slot;
 
 /// The least width of slot numbers, at which there is one group.
 const NARROWEST: u32 = 4;
@@ -25,6 +28,8 @@ pub struct Packed;
 impl Blocks for Packed {
     ghost layout = { packed_table };
 
+    ghost readable = { λ k v b block. MarkedBlock k v b block };
+
     ghost lawful = { packed_laws };
 
     ghost grouped = { (4, refl) };
@@ -32,6 +37,8 @@ impl Blocks for Packed {
     ghost limited = { some_room };
 
     ghost fitting = { fit_law };
+
+    ghost given_readable = { λ k v b block h g. marked_given k v b block g };
 
     fn slots() -> u64 {
         SLOTS
@@ -64,48 +71,46 @@ impl Blocks for Packed {
         judge::is_given(block, shape)
     }
 
-    fn load(block: &[u64], shape: Shape) -> u64 {
-        block::load(block, shape)
+    fn load(at: &Slot<'_, Packed>) -> u64 {
+        marks::load(at.block[0])
     }
 
-    fn size(block: &[u64], shape: Shape, slot: u64) -> u64 {
-        block::size(block, shape, slot)
+    fn size(at: &Slot<'_, Packed>) -> u64 {
+        marks::size(at.block[0], at.slot)
     }
 
-    fn find(block: &[u64], shape: Shape, slot: u64, quotient: u64) -> Result<u64, TableRefusal> {
-        block::find(block, shape, slot, quotient)
+    fn place(at: &Slot<'_, Packed>, quotient: u64) -> Option<u64> {
+        for i in 0..Packed::size(at) {
+            if at.quotient(i) == quotient {
+                return Some(i);
+            }
+        }
+        None
     }
 
-    fn pick(block: &[u64], shape: Shape, slot: u64, i: u64) -> Result<(u64, u64), TableRefusal> {
-        block::pick(block, shape, slot, i)
+    fn entry(at: &Slot<'_, Packed>, i: u64) -> (u64, u64) {
+        (at.quotient(i), at.value(i))
     }
 
-    fn weigh(
-        block: &[u64],
-        shape: Shape,
-        slot: u64,
-        quotient: u64,
-        earlier: u64,
-    ) -> Result<(), TableRefusal> {
-        block::weigh(block, shape, slot, quotient, earlier)
+    fn put(block: &mut [u64], shape: Shape, slot: u64, quotient: u64, value: u64) {
+        let word = block[0];
+        let place = marks::before(word, slot) + marks::size(word, slot);
+        change::open_gap(block, shape, marks::load(word), place, quotient, value);
+        block[0] = marks::add(word, slot);
     }
 
-    fn append(
-        block: &mut [u64],
-        shape: Shape,
-        slot: u64,
-        quotient: u64,
-        value: u64,
-    ) -> Result<(), TableRefusal> {
-        change::append(block, shape, slot, quotient, value)
-    }
-
-    fn remove(
-        block: &mut [u64],
-        shape: Shape,
-        slot: u64,
-        quotient: u64,
-    ) -> Result<u64, TableRefusal> {
-        change::remove(block, shape, slot, quotient)
+    fn take_out(block: &mut [u64], shape: Shape, slot: u64, i: u64) -> u64 {
+        let value = Slot {
+            block,
+            shape,
+            slot,
+            kind: PhantomData::<Packed>,
+        }
+        .value(i);
+        let word = block[0];
+        let place = marks::before(word, slot) + i;
+        change::close_gap(block, shape, marks::load(word), place);
+        block[0] = marks::remove(word, slot);
+        value
     }
 }

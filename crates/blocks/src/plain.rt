@@ -1,11 +1,11 @@
 //! The plain kind: a slot to a block of 16 words, a word to an entry.
 ghost use Rattle.std.specs.Prelude.{refl};
-ghost use Rattle.blocks.specs.PlainLayout.{plain};
-ghost use Rattle.blocks.specs.PlainLaws.{plain_laws, fit_law, some_room};
+ghost use Rattle.blocks.specs.PlainLayout.{plain, Stored};
+ghost use Rattle.blocks.specs.PlainLaws.{plain_laws, fit_law, some_room, given_stored};
 
 use crate::kind::Blocks;
-use crate::plain::block::{LIMIT, WIDTH};
-use table::refusal::TableRefusal;
+use crate::plain::block::{LIMIT, RADIX, WIDTH};
+use crate::slot::Slot;
 use table::shape::Shape;
 
 mod block;
@@ -20,6 +20,8 @@ pub struct Plain;
 impl Blocks for Plain {
     ghost layout = { plain };
 
+    ghost readable = { λ k v b block. Stored block };
+
     ghost lawful = { plain_laws };
 
     ghost grouped = { (0, refl) };
@@ -27,6 +29,8 @@ impl Blocks for Plain {
     ghost limited = { some_room };
 
     ghost fitting = { fit_law };
+
+    ghost given_readable = { given_stored };
 
     fn slots() -> u64 {
         1
@@ -55,48 +59,35 @@ impl Blocks for Plain {
         judge::is_given(block, shape)
     }
 
-    fn load(block: &[u64], _shape: Shape) -> u64 {
-        block::count(block)
+    fn load(at: &Slot<'_, Plain>) -> u64 {
+        Plain::size(at)
     }
 
-    fn size(block: &[u64], _shape: Shape, _slot: u64) -> u64 {
-        block::count(block)
+    fn size(at: &Slot<'_, Plain>) -> u64 {
+        at.block[0]
     }
 
-    fn find(block: &[u64], _shape: Shape, _slot: u64, quotient: u64) -> Result<u64, TableRefusal> {
-        block::find(block, quotient)
+    fn place(at: &Slot<'_, Plain>, quotient: u64) -> Option<u64> {
+        block::place(at.held(), quotient).map(|i| i as u64)
     }
 
-    fn pick(block: &[u64], _shape: Shape, _slot: u64, i: u64) -> Result<(u64, u64), TableRefusal> {
-        block::pick(block, i)
+    fn entry(at: &Slot<'_, Plain>, i: u64) -> (u64, u64) {
+        let word = at.block[i as usize + 1];
+        (word % RADIX, word / RADIX)
     }
 
-    fn weigh(
-        block: &[u64],
-        _shape: Shape,
-        _slot: u64,
-        quotient: u64,
-        earlier: u64,
-    ) -> Result<(), TableRefusal> {
-        block::weigh(block, quotient, earlier)
+    fn put(block: &mut [u64], _shape: Shape, _slot: u64, quotient: u64, value: u64) {
+        let count = block[0];
+        block[count as usize + 1] = value * RADIX + quotient;
+        block[0] = count + 1;
     }
 
-    fn append(
-        block: &mut [u64],
-        _shape: Shape,
-        _slot: u64,
-        quotient: u64,
-        value: u64,
-    ) -> Result<(), TableRefusal> {
-        block::append(block, quotient, value)
-    }
-
-    fn remove(
-        block: &mut [u64],
-        _shape: Shape,
-        _slot: u64,
-        quotient: u64,
-    ) -> Result<u64, TableRefusal> {
-        block::remove(block, quotient)
+    fn take_out(block: &mut [u64], _shape: Shape, _slot: u64, i: u64) -> u64 {
+        let count = block[0];
+        let first = i as usize + 1;
+        let value = block[first] / RADIX;
+        block::close(&mut block[first..count as usize + 1]);
+        block[0] = count - 1;
+        value
     }
 }

@@ -3,27 +3,24 @@ ghost use Rattle.std.specs.Prelude.{◌≡◌, ℕ, ◌-◌, ◌*◌, ◌/◌, �
 ghost use Rattle.bits.specs.Area.{number};
 ghost use Rattle.table.specs.Meaning.{Good, total};
 ghost use Rattle.table.specs.Checking.{Given};
+ghost use Rattle.blocks.specs.Slots.{entries_in};
 ghost use Rattle.blocks.specs.PackedLayout.{width, quotient_area, value_area, slots_of, packed_table, MarkedBlock};
 
+use crate::kind::Blocks;
 use crate::packed::parts::{LIMIT, SLOTS};
-use crate::packed::{block, parts};
+use crate::packed::{Packed, parts};
+use crate::slot::Slot;
 use bits::marks;
 use bits::zeros::is_zero_from;
+use std::marker::PhantomData;
 use table::shape::Shape;
 
 /// Whether the quotients of a slot are apart: each stands first at its own place.
-fn apart(block: &[u64], shape: Shape, slot: u64) -> bool
-    requires marked { MarkedBlock shape.k shape.v shape.b block.now }
-    requires slot { slot < 16 }
-    ensures value { Decides result (Good (shape.k - shape.b) shape.v (slice_index_or (slots_of 1 shape.k shape.v shape.b block.now) slot [])) }
+fn apart(at: &Slot<'_, Packed>) -> bool
+    ensures value { Decides result (Good (at.now.shape.k - at.now.shape.b) at.now.shape.v (entries_in at.now)) }
 {
-    let size = block::size(block, shape, slot);
-    for i in 0..size {
-        let quotient = block::quotient(block, shape, slot, i);
-        let Some(first) = block::place(block, shape, slot, quotient) else {
-            return false;
-        };
-        if first != i {
+    for i in 0..Packed::size(at) {
+        if Packed::place(at, at.quotient(i)) != Some(i) {
             return false;
         }
     }
@@ -36,7 +33,13 @@ fn all_apart(block: &[u64], shape: Shape) -> bool
     ensures value { Decides result ((j : ℕ) → j < 16 → Good (shape.k - shape.b) shape.v (slice_index_or (slots_of 1 shape.k shape.v shape.b block.now) j [])) }
 {
     for slot in 0..SLOTS {
-        if !apart(block, shape, slot) {
+        let at = Slot {
+            block,
+            shape,
+            slot,
+            kind: PhantomData,
+        };
+        if !apart(&at) {
             return false;
         }
     }
@@ -50,7 +53,7 @@ fn clean(block: &[u64], shape: Shape) -> bool
         ((number (quotient_area 1 shape.k shape.b block.now) / 2 ^ (total (slots_of 1 shape.k shape.v shape.b block.now) * (shape.k - shape.b)) ≡ 0)
         × (number (value_area 1 shape.k shape.b block.now) / 2 ^ (total (slots_of 1 shape.k shape.v shape.b block.now) * shape.v) ≡ 0)) }
 {
-    let count = block::load(block, shape);
+    let count = marks::load(block[0]);
     if !is_zero_from(
         parts::quotients(block, shape),
         count * (shape.k - shape.b) as u64,

@@ -36,13 +36,15 @@ impl<L: Blocks> BlockTable<L> {
         ensures len { size self.new ≡ size self.old }
     {
         let at = self.spot(slot, quotient, value)?;
-        L::append(
+        self.slot_at(at).weigh(quotient, 0)?;
+        L::put(
             &mut self.words[at.start..at.end],
             at.shape,
             at.slot,
             quotient,
             value,
-        )
+        );
+        Ok(())
     }
 
     /// Takes the entry of a quotient out of a slot, and gives its value.
@@ -52,44 +54,36 @@ impl<L: Blocks> BlockTable<L> {
         ensures len { size self.new ≡ size self.old }
     {
         let at = self.spot(slot, quotient, 0)?;
-        L::remove(
-            &mut self.words[at.start..at.end],
-            at.shape,
-            at.slot,
-            quotient,
-        )
+        let i = L::place(&self.slot_at(at), quotient).ok_or(TableRefusal::Absent)?;
+        Ok(L::take_out(&mut self.words[at.start..at.end], at.shape, at.slot, i))
     }
 
     /// The value of a quotient in a slot.
     pub fn find(&self, slot: u64, quotient: u64) -> Result<u64, TableRefusal>
         ensures value { result ≡ found (means self.now) slot quotient }
     {
-        let at = self.spot(slot, quotient, 0)?;
-        L::find(&self.words[at.start..at.end], at.shape, at.slot, quotient)
+        self.slot(slot, quotient, 0)?.find(quotient)
     }
 
     /// How many entries a slot holds.
     pub fn size(&self, slot: u64) -> Result<u64, TableRefusal>
         ensures value { result ≡ sized (means self.now) slot }
     {
-        let at = self.spot(slot, 0, 0)?;
-        Ok(L::size(&self.words[at.start..at.end], at.shape, at.slot))
+        Ok(L::size(&self.slot(slot, 0, 0)?))
     }
 
     /// The entry at a place of a slot: quotient and value.
     pub fn entry(&self, slot: u64, i: u64) -> Result<(u64, u64), TableRefusal>
         ensures value { result ≡ entered (means self.now) slot i }
     {
-        let at = self.spot(slot, 0, 0)?;
-        L::pick(&self.words[at.start..at.end], at.shape, at.slot, i)
+        self.slot(slot, 0, 0)?.pick(i)
     }
 
     /// How many entries a slot's group holds.
     pub fn load(&self, slot: u64) -> Result<u64, TableRefusal>
         ensures value { result ≡ loaded L.layout.S (means self.now) slot }
     {
-        let at = self.spot(slot, 0, 0)?;
-        Ok(L::load(&self.words[at.start..at.end], at.shape))
+        Ok(L::load(&self.slot(slot, 0, 0)?))
     }
 
     /// What `add` would answer, were `earlier` more entries in the slot's group.
@@ -102,14 +96,7 @@ impl<L: Blocks> BlockTable<L> {
     ) -> Result<(), TableRefusal>
         ensures value { result ≡ admitted L.layout.S L.layout.C (means self.now) slot quotient value earlier }
     {
-        let at = self.spot(slot, quotient, value)?;
-        L::weigh(
-            &self.words[at.start..at.end],
-            at.shape,
-            at.slot,
-            quotient,
-            earlier,
-        )
+        self.slot(slot, quotient, value)?.weigh(quotient, earlier)
     }
 
     /// Whether widths fit this table.

@@ -1,7 +1,9 @@
-use Rattle.blocks.specs.Stored.{marked_given}
+use Rattle.std.proofs.Common.{◌∙◌}
+use Rattle.blocks.specs.Views.{load_is}
+use Rattle.blocks.proofs.Readable.{bare_marked}
 use Rattle.blocks.proofs.packed.PackedBlocks.load.Goals as goal
 
-pub load-requires : goal.load-requires
-load-requires c =
-    let s = c.args.shape in
-    marked_given s.k s.v s.b c.args.block.now c.requires
+pub returns : goal.returns
+returns c =
+    let t = c.args.at.now in let s = t.shape in
+    record { value = c.load.ensures.value ∙ load_is s.k s.v s.b t.block.now (bare_marked s.k s.v s.b t.block.now t.readable) }

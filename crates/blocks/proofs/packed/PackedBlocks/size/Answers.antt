@@ -1,7 +1,9 @@
-use Rattle.blocks.specs.Stored.{marked_given}
+use Rattle.std.proofs.Common.{◌∙◌}
+use Rattle.blocks.specs.Views.{size_here}
+use Rattle.blocks.proofs.Readable.{bare_marked}
 use Rattle.blocks.proofs.packed.PackedBlocks.size.Goals as goal
 
-pub size-requires : goal.size-requires
-size-requires c =
-    let s = c.args.shape in
-    record { marked = marked_given s.k s.v s.b c.args.block.now c.requires.given; slot = c.requires.slot }
+pub returns : goal.returns
+returns c =
+    let t = c.args.at.now in let s = t.shape in
+    record { value = c.size.ensures.value ∙ size_here s.k s.v s.b t.block.now (bare_marked s.k s.v s.b t.block.now t.readable) t.slot t.inside }

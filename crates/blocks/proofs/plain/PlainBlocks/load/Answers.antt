@@ -1,9 +1,8 @@
-use Rattle.std.proofs.Common.{◌≡◌, ◌-◌, sym, ◌∙◌, add-zero, arith}
-use Rattle.blocks.specs.PlainLaws.{given_stored, below_32}
+use Rattle.std.proofs.Common.{◌≡◌, add-zero, arith}
 use Rattle.blocks.proofs.plain.PlainBlocks.load.Goals as goal
 
-pub count-requires : goal.count-requires
-count-requires c = let s = c.args._shape in given_stored s.k s.v s.b c.args.block.now s.narrow c.requires
-
 pub returns : goal.returns
-returns c = record { value = c.count.ensures.value ∙ sym (add-zero _) }
+returns c =
+    let e : c.args.at.now.slot ≡ 0 = omega (arith, c.args.at.now.inside) in
+    let h = c.size.ensures.value in
+    record { value = rw add-zero (rw e at h) }

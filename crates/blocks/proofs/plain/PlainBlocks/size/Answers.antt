@@ -1,9 +1,15 @@
-use Rattle.std.proofs.Common.{◌≡◌, ◌-◌, sym, ◌∙◌, add-zero, arith}
-use Rattle.blocks.specs.PlainLaws.{given_stored, below_32}
+use Rattle.std.proofs.Common.{◌≡◌, arith}
+use Rattle.blocks.specs.PlainBlocks.{stored_count, stored_length}
+use Rattle.blocks.proofs.Readable.{bare_stored}
 use Rattle.blocks.proofs.plain.PlainBlocks.size.Goals as goal
 
-pub count-requires : goal.count-requires
-count-requires c = let s = c.args._shape in given_stored s.k s.v s.b c.args.block.now s.narrow c.requires.given
+pub bounds-at-0 : goal.bounds-at-0
+bounds-at-0 c =
+    let block = c.args.at.now.block.now in
+    omega (arith, stored_length block (bare_stored block c.args.at.now.readable))
 
 pub returns : goal.returns
-returns c = let e : c.args._slot ≡ 0 = omega arith in record { value = rw e c.count.ensures.value }
+returns c =
+    let block = c.args.at.now.block.now in
+    let e : c.args.at.now.slot ≡ 0 = omega (arith, c.args.at.now.inside) in
+    record { value = rw e (stored_count block (bare_stored block c.args.at.now.readable)) }

@@ -1,4 +1,4 @@
-use Rattle.blocks.proofs.Removing.{closed}
+use Rattle.blocks.proofs.PlainRemoving.{closed}
 use Rattle.blocks.proofs.plain.block.close.Goals as goal
 
 pub returns : goal.returns

@@ -1,8 +1,12 @@
-use Rattle.blocks.proofs.Places.{place_here, place_none}
+use Rattle.std.proofs.Common.{◌≡◌, ◌%◌, ◌^◌, rules}
+use Rattle.std.proofs.lemmas.Iterator.{YieldsList-from_slice, IsFirst-from_position}
+use borrow.Author.Tests.{tests}
+use Rattle.blocks.proofs.PlainPlaces.{placed}
 use Rattle.blocks.proofs.plain.block.place.Goals as goal
 
-pub returns-then-entries-i : goal.returns-then-entries-i
-returns-then-entries-i c = record { value = place_here c.args.entries.now c.args.quotient c.loop-i.i c.loop-i-test.true c.if-entries-i.true c.loop-i.invariant }
-
 pub returns : goal.returns
-returns c = record { value = place_none c.args.entries.now c.args.quotient c.loop-i.i c.loop-i-test.false c.loop-i.invariant }
+returns c =
+    let q = c.args.quotient in
+    let first = IsFirst-from_position _ _ c.position.result (λ w. w % 2 ^ 32 ≡ q) (λ w. w % 2 ^ 32 ≡ q → ⊥) c.position.ensures.ran (YieldsList-from_slice c.args.entries.now cc)
+    (λ x q k. search (rules, tests)) (λ x q k. search (rules, tests)) in
+    record { value = placed c.args.entries.now q c.position.result first }

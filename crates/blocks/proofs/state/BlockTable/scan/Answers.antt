@@ -1,4 +1,4 @@
-use Rattle.std.proofs.Common.{length, arith}
+use Rattle.std.proofs.Common.{arith}
 use Rattle.table.proofs.Checks.{wrong_here, wrong_tail, all_right, given_more}
 use Rattle.blocks.proofs.Scans.{blocks_inside, rest_is, block_inside, block_at}
 use Rattle.blocks.proofs.state.BlockTable.scan.Goals as goal

@@ -1,7 +1,7 @@
-use Rattle.std.proofs.Common.{◌≡◌, ℕ, ◌+◌, ◌*◌, ◌/◌, Fits, w64, Some, rules, arith, sym, ap, ◌∙◌}
+use Rattle.std.proofs.Common.{◌≡◌, Some, rules, sym, ◌∙◌}
 use Rattle.blocks.proofs.Called.{inside_words, reached}
 use Rattle.blocks.proofs.state.BlockTable.spot.Goals as goal
-use Rattle.blocks.specs.Means.{items, size}
+use Rattle.blocks.specs.Means.{items}
 
 pub overflow_mul-start : goal.overflow_mul-start
 overflow_mul-start g c =

@@ -1,7 +1,0 @@
-use Rattle.blocks.specs.Stored.{marked_given}
-use Rattle.blocks.proofs.packed.PackedBlocks.pick.Goals as goal
-
-pub pick-requires : goal.pick-requires
-pick-requires c =
-    let s = c.args.shape in
-    record { marked = marked_given s.k s.v s.b c.args.block.now c.requires.given; slot = c.requires.slot }
