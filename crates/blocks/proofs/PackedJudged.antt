@@ -1,13 +1,13 @@
 -- What the tests of slots, areas and blocks decide.
-use Rattle.std.proofs.Common.{◌≡◌, ℕ, ◌+◌, ◌-◌, ◌*◌, ◌/◌, ◌%◌, ◌^◌, ◌<◌, ◌≤◌, Bool, true, false, List, [], ◌∷◌, ◌++◌, map, length, get_or, take, drop, Some, None, Option, not, eqb, Decides, sym, refl, ap, ◌∙◌, subst, ap₂, ⊎_elim, zero-mul, arith, pow_pos}
+use Rattle.std.proofs.Common.{◌≡◌, ℕ, ◌+◌, ◌-◌, ◌*◌, ◌/◌, ◌%◌, ◌^◌, ◌<◌, ◌≤◌, Bool, true, false, List, [], ◌∷◌, ◌++◌, map, length, get_or, take, drop, Decides, sym, refl, ap, ◌∙◌, subst, ap₂, ⊎_elim, zero-mul, arith, pow_pos}
 use native.Mathlib.Nat.{div-eq_of_lt}
 use lib.Pow.{split}
-use Rattle.std.specs.List.{range_with_len}
-use Rattle.std.proofs.lemmas.Bool.{cases_lt, le-leb, eq-eqb}
-use Rattle.std.specs.Option.{option_eq}
+use Rattle.std.specs.List.{range_with_len, AllWithin, HoldsAt}
+use Rattle.std.specs.Bool.{MatchBool}
+use Rattle.std.proofs.lemmas.Bool.{le-leb}
 use Rattle.std.proofs.lemmas.Bool.Decides.{not_from_Decides}
 use Rattle.std.proofs.lemmas.List.{ext_get_or, length-map, get_or-map}
-use Rattle.std.proofs.lemmas.List.FromFn.{get_or-map-range_with_len}
+use Rattle.std.proofs.lemmas.List.FromFn.{get_or-map-range_with_len, length-range_with_len, get_or-range_with_len}
 use Rattle.bits.specs.Area.{number, words_of, field, fields, packed}
 use Rattle.bits.specs.Laws.{Below}
 use Rattle.bits.specs.Marks.{marks, entries_before}
@@ -16,11 +16,10 @@ use Rattle.bits.proofs.Packs.{packed_lt, packed_fields, length_fields, getD_fiel
 use Rattle.bits.proofs.Lists.{below_take, below_drop}
 use Rattle.bits.proofs.Splices.{bits_lt}
 use Rattle.table.specs.Meaning.{Good, total, value_in}
-use Rattle.table.specs.Places.{First, Placed}
+use Rattle.table.specs.Places.{First}
 use Rattle.table.specs.Checking.{Given}
 use Rattle.table.specs.Layout.{GoodGroup}
-use Rattle.table.proofs.Slots.{none_apart}
-use Rattle.table.proofs.Zeros.{refuted, shown}
+use Rattle.table.proofs.Decided.{refuted, shown}
 use Rattle.blocks.specs.PackedLayout.{room, entries, quotient_area, value_area, pairs, slots_of, packed_table, MarkedBlock}
 use Rattle.blocks.specs.Entries.{length_entries}
 use Rattle.blocks.specs.Areas.{parts_of, block_parts, block_is}
@@ -40,42 +39,32 @@ module _ (k v b : ℕ) (block : List ℕ) (mb : MarkedBlock k v b block) where
       apart = inv;
     }
 
-    -- all its quotients were found first at their own places
-    pub apart_all : (i : ℕ) → length (get_or (slots_of 1 k v b block) j []) ≤ i
-        → ((m n : ℕ) → m < n → n < i → (get_or (get_or (slots_of 1 k v b block) j []) m (0, 0)).0 ≡ (get_or (get_or (slots_of 1 k v b block) j []) n (0, 0)).0 → ⊥)
+    -- each quotient stands first at its own place
+    pub each_first : ((i : ℕ) → i < length (get_or (slots_of 1 k v b block) j []) → First (get_or (slots_of 1 k v b block) j []) (get_or (get_or (slots_of 1 k v b block) j []) i (0, 0)).0 i)
         → Decides true (Good (k - b) v (get_or (slots_of 1 k v b block) j []))
-    apart_all i l inv = shown _ (good_from (λ m n mn nl. inv m n mn (omega arith)))
+    each_first f = shown _ (good_from (λ m n mn nl same. (f n nl).before m mn same))
 
-    module _ (i q : ℕ) (l : i < length (get_or (slots_of 1 k v b block) j [])) (qe : q ≡ (get_or (get_or (slots_of 1 k v b block) j []) i (0, 0)).0) where
-      -- one more
-      pub apart_more : ((m n : ℕ) → m < n → n < i → (get_or (get_or (slots_of 1 k v b block) j []) m (0, 0)).0 ≡ (get_or (get_or (slots_of 1 k v b block) j []) n (0, 0)).0 → ⊥)
-          → (first : ℕ) → First (get_or (slots_of 1 k v b block) j []) q first → first ≡ i
-          → (m n : ℕ) → m < n → n < i + 1 → (get_or (get_or (slots_of 1 k v b block) j []) m (0, 0)).0 ≡ (get_or (get_or (slots_of 1 k v b block) j []) n (0, 0)).0 → ⊥
-      apart_more inv first f fe m n mn nl same =
-          let es = get_or (slots_of 1 k v b block) j [] in
-          ⊎_elim
-          (λ low. inv m n mn low same)
-          (λ up.
-          let e : n ≡ i = omega arith in
-          f.before m (omega arith) (same ∙ ap (λ t. (get_or es t (0, 0)).0) e ∙ sym qe))
-          (cases_lt n i)
+    -- one does not
+    pub one_later : (i : ℕ) → i < length (get_or (slots_of 1 k v b block) j []) → (First (get_or (slots_of 1 k v b block) j []) (get_or (get_or (slots_of 1 k v b block) j []) i (0, 0)).0 i → ⊥)
+        → Decides false (Good (k - b) v (get_or (slots_of 1 k v b block) j []))
+    one_later i h later = refuted _ (λ g. later (record { inside = h; here = refl; before = λ a al e. g.apart a i al h e }))
 
-      -- it stands first at another place
-      pub twice : (first : ℕ) → First (get_or (slots_of 1 k v b block) j []) q first → (first ≡ i → ⊥) → Decides false (Good (k - b) v (get_or (slots_of 1 k v b block) j []))
-      twice first f ne = refuted _ (λ g.
-          ⊎_elim
-          (λ low. g.apart first i low l (f.here ∙ qe))
-          (λ up. let s : i < first = omega arith in f.before i s (sym qe))
-          (cases_lt first i))
-
-      -- it stands somewhere
-      pub nowhere : value_in (get_or (slots_of 1 k v b block) j []) q ≡ None → ⊥
-      nowhere e = none_apart (get_or (slots_of 1 k v b block) j []) q e i l (sym qe)
-
-      -- it is not found first at its own place
-      pub elsewhere : (o : Option ℕ) → Placed (get_or (slots_of 1 k v b block) j []) q o → true ≡ not (option_eq eqb o (Some i)) → Decides false (Good (k - b) v (get_or (slots_of 1 k v b block) j []))
-      elsewhere None p e = absurd (nowhere p)
-      elsewhere (Some first) p e = twice first p (λ same. let x = eq-eqb first i same in let z : ◌≡◌ {A = Bool} true false = e ∙ ap not x in let y : ◌≡◌ {A = ℕ} 0 1 = cc (z) in omega arith)
+    -- what a test of every place decides
+    pub apart_decided : (n : ℕ) → n ≡ length (get_or (slots_of 1 k v b block) j []) → (r : Bool)
+        → MatchBool r (AllWithin (λ x. First (get_or (slots_of 1 k v b block) j []) (get_or (get_or (slots_of 1 k v b block) j []) x (0, 0)).0 x) (range_with_len 0 n) 0 (length (range_with_len 0 n)))
+          ((i : ℕ) × (i < length (range_with_len 0 n)) × HoldsAt (λ x. First (get_or (slots_of 1 k v b block) j []) (get_or (get_or (slots_of 1 k v b block) j []) x (0, 0)).0 x → ⊥) (range_with_len 0 n) i)
+        → Decides r (Good (k - b) v (get_or (slots_of 1 k v b block) j []))
+    apart_decided n ns true m = each_first (λ i h.
+        let es = get_or (slots_of 1 k v b block) j [] in
+        let l : i < n = omega (arith, ns) in
+        let at : get_or (range_with_len 0 n) i 0 ≡ i = get_or-range_with_len 0 n i 0 l ∙ omega arith in
+        subst (λ x. First es (get_or es x (0, 0)).0 x) at (m i 0 (omega arith) (omega (arith, length-range_with_len 0 n))))
+    apart_decided n ns false m =
+        let es = get_or (slots_of 1 k v b block) j [] in
+        let i = m.0 in
+        let l : i < n = omega (arith, length-range_with_len 0 n, m.1) in
+        let at : get_or (range_with_len 0 n) i 0 ≡ i = get_or-range_with_len 0 n i 0 l ∙ omega arith in
+        one_later i (omega (arith, ns)) (subst (λ x. First es (get_or es x (0, 0)).0 x → ⊥) at (m.2 0))
 
   -- ---- the areas
 

@@ -6,7 +6,7 @@ use Rattle.table.specs.Meaning.{Good, value_in}
 use Rattle.table.specs.Places.{First}
 use Rattle.table.specs.Checking.{Given}
 use Rattle.table.proofs.Slots.{good_empty, good_push}
-use Rattle.table.proofs.Zeros.{refuted, shown}
+use Rattle.table.proofs.Decided.{refuted, shown}
 use Rattle.blocks.specs.PlainLayout.{block_of, entries_of, entry_of, word_of, plain}
 use Rattle.blocks.specs.PlainBlocks.{block_entries, block_count, entries_block}
 use Rattle.blocks.specs.PlainLaws.{slot_good, slot_few, group_from}

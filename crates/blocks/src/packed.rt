@@ -80,12 +80,7 @@ impl Blocks for Packed {
     }
 
     fn place(at: &Slot<'_, Packed>, quotient: u64) -> Option<u64> {
-        for i in 0..Packed::size(at) {
-            if at.quotient(i) == quotient {
-                return Some(i);
-            }
-        }
-        None
+        (0..Packed::size(at)).find(|i| at.quotient(*i) == quotient)
     }
 
     fn entry(at: &Slot<'_, Packed>, i: u64) -> (u64, u64) {

@@ -19,12 +19,7 @@ use table::shape::Shape;
 fn apart(at: &Slot<'_, Packed>) -> bool
     ensures value { Decides result (Good (at.now.shape.k - at.now.shape.b) at.now.shape.v (entries_in at.now)) }
 {
-    for i in 0..Packed::size(at) {
-        if Packed::place(at, at.quotient(i)) != Some(i) {
-            return false;
-        }
-    }
-    true
+    (0..Packed::size(at)).all(|i| Packed::place(at, at.quotient(i)) == Some(i))
 }
 
 /// Whether the quotients of every slot are apart.
@@ -32,6 +27,7 @@ fn all_apart(block: &[u64], shape: Shape) -> bool
     requires { MarkedBlock shape.k shape.v shape.b block.now }
     ensures value { Decides result ((j : ℕ) → j < 16 → Good (shape.k - shape.b) shape.v (slice_index_or (slots_of 1 shape.k shape.v shape.b block.now) j [])) }
 {
+    // A for over numbers: the closure of an all would make the slot, whose ghost fields want what only a clause of its own can say.
     for slot in 0..SLOTS {
         let at = Slot {
             block,

@@ -23,10 +23,12 @@ impl<L: Blocks> BlockTable<L> {
     {
         let blocks = L::count(shape);
         let width = L::width(shape);
-        for g in 0..blocks {
-            if !L::is_given(&words[g * width..g * width + width], shape) {
-                return Err(CheckRefusal::WrongBlock(g as u64));
-            }
+        let wrong = (0..blocks).find(|g| !L::is_given(
+            &words[*g * width..*g * width + width],
+            shape,
+        ));
+        if let Some(g) = wrong {
+            return Err(CheckRefusal::WrongBlock(g as u64));
         }
         if !all_zero(&words[blocks * width..]) {
             return Err(CheckRefusal::WrongBlock(blocks as u64));

@@ -1,6 +1,6 @@
 use Rattle.std.proofs.Common.{arith, below_more}
 use Rattle.std.proofs.lemmas.Bool.Decides.{not_from_Decides}
-use Rattle.table.proofs.Zeros.{refuted, shown}
+use Rattle.table.proofs.Decided.{refuted, shown}
 use Rattle.blocks.proofs.packed.judge.all_apart.Goals as goal
 
 pub returns-then-not-apart : goal.returns-then-not-apart

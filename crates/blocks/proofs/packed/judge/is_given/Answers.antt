@@ -1,6 +1,6 @@
 use Rattle.std.proofs.Common.{ℕ, ◌^◌, ◌<◌, get_or, rules}
 use Rattle.std.proofs.lemmas.Bool.Decides.{when_true, when_false, not_from_Decides}
-use Rattle.table.proofs.Zeros.{refuted}
+use Rattle.table.proofs.Decided.{refuted}
 use Rattle.blocks.specs.PackedLayout.{MarkedBlock}
 use Rattle.blocks.specs.Stored.{good_given, marked_given}
 use Rattle.blocks.proofs.PackedJudged.{clean_given, given_from}
