@@ -1,6 +1,5 @@
 use crate::mirror::{Mirror, power};
-use packed::PackedTable;
-use plain::PlainTable;
+use blocks::{PackedTable, PlainTable};
 
 /// A table whose words are compared with words computed here.
 pub trait Layout {

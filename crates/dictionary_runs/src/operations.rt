@@ -4,11 +4,10 @@
 use crate::layout::Layout;
 use crate::mirror::{Kind, Mirror, Outcome, power};
 use crate::noise::Noise;
+use blocks::{PackedTable, PlainTable};
 use dictionary::{cancel_run, entry_at, look_up, redistribute, take_run};
 use model::run_refusal::RunRefusal;
-use packed::PackedTable;
 use permutation::{Affine, Chain, Identity, Permutation, XorShift};
-use plain::PlainTable;
 use std::io;
 use table::shape::Shape;
 use table::table::Table;

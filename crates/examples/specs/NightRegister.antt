@@ -8,7 +8,7 @@ use Rattle.coding.specs.Nights.{night_item, night_number}
 use Rattle.coding.specs.declared.items.Booking.{Booking}
 use Rattle.coding.specs.declared.items.Night.{Night}
 use Rattle.model.specs.Model.{Coding, Fixed, Kind}
-use Rattle.plain.specs.Layout.{fits}
+use Rattle.blocks.specs.PlainLayout.{fits}
 
 abbrev pub night_coding : Coding Night
 night_coding = record { width = 20; number = night_number; item = night_item }

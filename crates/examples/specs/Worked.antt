@@ -10,7 +10,7 @@ use Rattle.model.specs.Laws.{half_list}
 use Rattle.model.specs.Model.{closed, answered, refused_at}
 use Rattle.model.specs.Step.{run}
 use Rattle.model.specs.declared.call.Call.TheVariants.{Open, Take}
-use Rattle.packed.specs.Layout.{fits, block_of, packed_table}
+use Rattle.blocks.specs.PackedLayout.{fits, block_of, packed_table}
 use Rattle.permutation.specs.Formulas.{affine_forth, inverse_of, xor_shift_forth, chained}
 use Rattle.table.specs.Slots.{slot, quotient}
 

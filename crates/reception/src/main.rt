@@ -12,10 +12,9 @@ mod show;
 
 use arrivals::layout::{Layout, packed_bits, plain_bits};
 use arrivals::mix::night_mix;
+use blocks::{PackedTable, PlainTable};
 use options::read_options;
-use packed::PackedTable;
 use permutation::Permutation;
-use plain::PlainTable;
 use report::report_list;
 use table::shape::Shape;
 use table::table::Table;

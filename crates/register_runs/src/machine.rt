@@ -1,12 +1,11 @@
 //! A register as the runs see it: calls and answers by numbers, and the words of its tables.
 use crate::items::{Numbered, Spelled};
 use crate::rules::Kind;
+use blocks::{PackedTable, PlainTable};
 use coding::Coding;
 use model::answer::Answer;
 use model::call::Call;
-use packed::PackedTable;
 use permutation::Permutation;
-use plain::PlainTable;
 use register::Register;
 use table::table::Table;
 

@@ -1,10 +1,9 @@
 //! What registers are made of.
 use crate::items::Sort;
 use crate::rules::Mix;
+use blocks::{PackedTable, PlainTable};
 use coding::{BookingCoding, CardCoding, LoanCoding, NightCoding};
-use packed::PackedTable;
 use permutation::{Affine, Chain, SetUpRefusal, XorShift};
-use plain::PlainTable;
 use std::io;
 
 /// What the four lists of a permutation have in common.

@@ -1,4 +1,4 @@
-pub mod Zeros
+pub mod Decided
 pub mod Runs
 pub mod Blocks
 pub mod Groups

@@ -104,13 +104,6 @@ module _ (S C : ℕ) (pos : 0 < S) (fits : ℕ → ℕ → ℕ → Bool) (fit_la
       let sum_is : min sum C ≡ load S slots s = omega (arith, inv.1, all) in
       ap Ok sum_is ∙ ap (loaded_at S slots s) (sym (lt-ltb s (2 ^ b) h))
 
--- the smaller of two
-pub least_left : (a b : ℕ) → a < b → a ≡ min a b
-least_left a b h = omega arith
-
-pub least_right : (a b : ℕ) → b ≤ a → b ≡ min a b
-least_right a b h = omega arith
-
 -- a group of a power of two has a slot
 pub group_pos : (S : ℕ) → ((j : ℕ) × (S ≡ 2 ^ j)) → 0 < S
 group_pos S p = subst (λ t. 0 < t) (sym p.1) (pow_pos p.0)

@@ -89,12 +89,12 @@ pub trait Table {
         let group = self.group();
         let first = slot / group * group;
         let mut sum = 0u64;
+        // A for over numbers: a try_fold with the same saturating sum in it is no plainer.
         for i in 0..group {
             let size = self.size(first.saturating_add(i))?;
             sum = sum.saturating_add(size);
         }
-        let limit = self.limit();
-        if sum < limit { Ok(sum) } else { Ok(limit) }
+        Ok(sum.min(self.limit()))
     }
 
     /// What `add` would answer, were `earlier` more entries in the slot's group.

@@ -4,8 +4,8 @@
 mod damage;
 mod expected;
 
+use blocks::PlainTable;
 use expected::Content;
-use plain::state::PlainTable;
 use std::io;
 use table::refusal::TableRefusal;
 use tally::tally::Tally;

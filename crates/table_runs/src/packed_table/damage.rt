@@ -2,8 +2,7 @@
 
 use super::expected::{Content, set_bit};
 use super::pair::equal;
-use packed::check::check;
-use packed::state::PackedTable;
+use blocks::PackedTable;
 use std::alloc::AllocError;
 use std::io;
 use table::check_refusal::CheckRefusal;
@@ -79,7 +78,7 @@ fn wrong_bit(
 
 /// Words in which this block is the first that is wrong.
 fn wrong_words(tally: &mut Tally, words: Vec<u64>, block: u64) {
-    let (number, named) = says(check(&words, K, V, B));
+    let (number, named) = says(PackedTable::check(&words, K, V, B));
     let table = PackedTable::keep(words, K, V, B);
     let unformed = match table.size(0) {
         Ok(_) => false,
@@ -92,7 +91,7 @@ fn wrong_words(tally: &mut Tally, words: Vec<u64>, block: u64) {
 fn kept(rt: &HostRuntime, tally: &mut Tally) -> io::Result<()> {
     let words = sound(rt)?;
     let again = sound(rt)?;
-    let (number, _) = says(check(&words, K, V, B));
+    let (number, _) = says(PackedTable::check(&words, K, V, B));
     let table = PackedTable::keep(words, K, V, B);
     let second = match table.find(1, 8) {
         Ok(value) => value == 92,
@@ -116,7 +115,7 @@ fn unfit(
     b: u32,
 ) -> io::Result<()> {
     let words = vec![in rt.alloc(); 0u64; words]?;
-    let (number, _) = says(check(&words, k, v, b));
+    let (number, _) = says(PackedTable::check(&words, k, v, b));
     let table = PackedTable::keep(words, k, v, b);
     tally.count(number == 6 && all_zero(table.words()) && !table.fits(k, v, b));
     Ok(())
@@ -132,7 +131,7 @@ fn empty(
     b: u32,
 ) -> io::Result<()> {
     let words = vec![in rt.alloc(); 0u64; words]?;
-    let (number, _) = says(check(&words, k, v, b));
+    let (number, _) = says(PackedTable::check(&words, k, v, b));
     let table = PackedTable::keep(words, k, v, b);
     let size = match table.size(0) {
         Ok(n) => n == 0,

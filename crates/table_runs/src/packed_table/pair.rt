@@ -1,7 +1,7 @@
 //! A packed table beside the plain list of entries that it should hold; after each call the words are compared.
 
 use super::expected::Content;
-use packed::state::PackedTable;
+use blocks::PackedTable;
 use std::io;
 use table::refusal::TableRefusal;
 use tally::tally::Tally;

@@ -1,8 +1,7 @@
 //! Damaged words of each kind: the number and the block that a check reports, and what keep makes of them.
 
 use super::expected::word;
-use plain::check::check;
-use plain::state::PlainTable;
+use blocks::PlainTable;
 use std::alloc::AllocError;
 use std::io;
 use table::check_refusal::CheckRefusal;
@@ -75,7 +74,7 @@ fn wrong(
 ) -> io::Result<()> {
     let mut words = sound(rt)?;
     put(&mut words, place, word);
-    let (number, named) = says(check(&words, K, V, B));
+    let (number, named) = says(PlainTable::check(&words, K, V, B));
     let table = PlainTable::keep(words, K, V, B);
     let unformed = match table.size(0) {
         Ok(_) => false,
@@ -89,7 +88,7 @@ fn wrong(
 fn kept(rt: &HostRuntime, tally: &mut Tally) -> io::Result<()> {
     let words = sound(rt)?;
     let again = sound(rt)?;
-    let (number, _) = says(check(&words, K, V, B));
+    let (number, _) = says(PlainTable::check(&words, K, V, B));
     let table = PlainTable::keep(words, K, V, B);
     let found = match table.find(1, 255) {
         Ok(value) => value == 255,
@@ -102,7 +101,7 @@ fn kept(rt: &HostRuntime, tally: &mut Tally) -> io::Result<()> {
 /// Widths that do not fit these words: 6, and keep gives an unformed table.
 fn unfit(rt: &HostRuntime, tally: &mut Tally, k: u32, v: u32, b: u32) -> io::Result<()> {
     let words = sound(rt)?;
-    let (number, _) = says(check(&words, k, v, b));
+    let (number, _) = says(PlainTable::check(&words, k, v, b));
     let table = PlainTable::keep(words, k, v, b);
     tally.count(number == 6 && all_zero(table.words()));
     Ok(())

@@ -2,8 +2,8 @@ use Rattle.std.proofs.Common.{refl}
 use Rattle.bits.specs.Area.{words_of, splice, fields, packed}
 use Rattle.bits.specs.Marks.{marks}
 use Rattle.permutation.specs.Formulas.{last_such, inverse_of}
-use Rattle.packed.specs.Layout.{room, fits, areas, block_of}
-use Rattle.plain.specs.Layout as plain
+use Rattle.blocks.specs.PackedLayout.{room, fits, areas, block_of}
+use Rattle.blocks.specs.PlainLayout as plain
 use Rattle.examples.proofs.worked.worked.Goals as goal
 
 pub returns : goal.returns

@@ -1,6 +1,6 @@
 use Rattle.std.proofs.Common.{◌≡◌, ◌+◌, ◌*◌, ◌/◌, ◌<◌, ◌≤◌, min, Ok, sym, ap, ◌∙◌, arith}
 use Rattle.std.proofs.lemmas.Result.{err_from_is_err_and}
-use Rattle.table.proofs.Loads.{group_pos, sum_more, sum_stops, sum_ends, least_left, least_right}
+use Rattle.table.proofs.Loads.{group_pos, sum_more, sum_stops, sum_ends}
 use Rattle.table.proofs.table.Table.load.Goals as goal
 
 pub returns-in_err-size : goal.returns-in_err-size
@@ -26,28 +26,14 @@ loop-i-preserved g c h =
     s i c.loop-i.sum il (c.loop-i.invariant h) c.saturating_add.result e c.in_ok-size.size (sym (c.size.ensures.value h) ∙ c.in_ok-size.was)
     c.saturating_add-sum.result c.saturating_add-sum.ensures
 
-pub returns-then-sum-limit : goal.returns-then-sum-limit
-returns-then-sum-limit g c =
+pub returns : goal.returns
+returns g c =
     let T = g.Self.Table in let t = c.args.self.now in
     record {
       value = λ h.
           let is : c.loop-i.i ≡ T.group = omega (arith, c.group-group.ensures.value, c.loop-i-test.false, c.loop-i.auto.i-end) in
-          let small : T.limit < 18446744073709551616 = omega (arith, c.limit-limit.ensures.value, c.limit-limit.type_inv) in
-          let less : c.loop-i.sum < T.limit = omega (arith, c.limit-limit.ensures.value, c.if-sum-limit.true) in
-          ap Ok (least_left c.loop-i.sum T.limit less)
-          ∙ sum_ends T.group T.limit (group_pos T.group g.met.Self.Table.grouped) (T.fits t) (g.met.Self.Table.fitting t) (T.means t) (g.met.Self.Table.well t h)
-          c.args.slot c.loop-i.i c.loop-i.sum is (c.loop-i.invariant h) small;
-    }
-
-pub returns-else-sum-limit : goal.returns-else-sum-limit
-returns-else-sum-limit g c =
-    let T = g.Self.Table in let t = c.args.self.now in
-    record {
-      value = λ h.
-          let is : c.loop-i.i ≡ T.group = omega (arith, c.group-group.ensures.value, c.loop-i-test.false, c.loop-i.auto.i-end) in
-          let small : T.limit < 18446744073709551616 = omega (arith, c.limit-limit.ensures.value, c.limit-limit.type_inv) in
-          let more : T.limit ≤ c.loop-i.sum = omega (arith, c.limit-limit.ensures.value, c.if-sum-limit.false) in
-          ap Ok (c.limit-limit.ensures.value ∙ least_right c.loop-i.sum T.limit more)
+          let small : T.limit < 18446744073709551616 = omega (arith, c.limit.ensures.value, c.limit.type_inv) in
+          ap Ok (c.min.ensures ∙ ap (min c.loop-i.sum) c.limit.ensures.value)
           ∙ sum_ends T.group T.limit (group_pos T.group g.met.Self.Table.grouped) (T.fits t) (g.met.Self.Table.fitting t) (T.means t) (g.met.Self.Table.well t h)
           c.args.slot c.loop-i.i c.loop-i.sum is (c.loop-i.invariant h) small;
     }

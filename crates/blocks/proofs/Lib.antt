@@ -1,0 +1,12 @@
+pub mod Readable
+pub mod Weighing
+pub mod Called
+pub mod Refusing
+pub mod PlainPlaces
+pub mod PlainAdding
+pub mod PlainRemoving
+pub mod PlainJudged
+pub mod Gaps
+pub mod Scans
+pub mod PackedShapes
+pub mod PackedJudged

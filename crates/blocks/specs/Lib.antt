@@ -1,0 +1,15 @@
+pub mod Places
+pub mod PlainLayout
+pub mod PlainBlocks
+pub mod PlainLaws
+pub mod PackedLayout
+pub mod Chops
+pub mod Areas
+pub mod Entries
+pub mod Views
+pub mod Stored
+pub mod PackedLaws
+pub mod Means
+pub mod Slots
+pub mod Spots
+pub mod Standing

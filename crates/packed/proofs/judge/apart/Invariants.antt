@@ -1,7 +1,0 @@
-use Rattle.std.proofs.Common.{◌≡◌, ℕ, ◌<◌, [], get_or}
-use Rattle.packed.specs.Layout.{slots_of}
-use Rattle.packed.proofs.judge.apart.Given as goal
-
-abbrev pub invariant-loop-i : goal.invariant-loop-i
-invariant-loop-i l = (m n : ℕ) → m < n → n < l.i
-    → (get_or (get_or (slots_of 1 l.shape.k l.shape.v l.shape.b l.block) l.slot []) m (0, 0)).0 ≡ (get_or (get_or (slots_of 1 l.shape.k l.shape.v l.shape.b l.block) l.slot []) n (0, 0)).0 → ⊥

@@ -1,9 +1,0 @@
-pub mod Layout
-pub mod Means
-pub mod Laws
-pub mod Areas
-pub mod Chops
-pub mod Entries
-pub mod Standing
-pub mod Stored
-pub mod Views

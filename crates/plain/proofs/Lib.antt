@@ -1,4 +1,0 @@
-pub mod Places
-pub mod Adding
-pub mod Removing
-pub mod Judged

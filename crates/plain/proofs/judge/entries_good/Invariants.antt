@@ -1,7 +1,0 @@
-use Rattle.std.proofs.Common.{◌-◌, map, take}
-use Rattle.table.specs.Meaning.{Good}
-use Rattle.plain.specs.Layout.{entry_of}
-use Rattle.plain.proofs.judge.entries_good.Given as goal
-
-abbrev pub invariant-loop-i : goal.invariant-loop-i
-invariant-loop-i l = Good (l.shape.k - l.shape.b) l.shape.v (map entry_of (take l.i l.entries))
