@@ -32,6 +32,10 @@ turned Q (Ok u) x f is at = let z : ◌≡◌ {A = ℕ} 0 1 = cc in absurd (omeg
 turned Q (Err e) x f is at = (e, refl, subst (λ y. IsErrAnd y (Q e)) is at)
 
 -- and one whose value is kept
+pub kept_ok : {A E D : Type 0} (Q : E → D → Type 0) (r : Result A E) (x : Result A D) (u : A) → x ≡ Ok u → MatchResult r (λ y. x ≡ Ok y) (λ e. IsErrAnd x (Q e)) → r ≡ Ok u
+kept_ok {A} {E} {D} Q (Ok v) x u is at = let both : ◌≡◌ {A = Result A D} (Ok u) (Ok v) = sym is ∙ at in let same : u ≡ v = cc in ap Ok (sym same)
+kept_ok Q (Err e) x u is at = absurd (subst (λ y. IsErrAnd y (Q e)) is at)
+
 pub turned_ok : {A E D : Type 0} (Q : E → D → Type 0) (r : Result A E) (x : Result A D) (u v : A) → x ≡ Ok u → r ≡ Ok v → MatchResult r (λ y. x ≡ Ok y) (λ e. IsErrAnd x (Q e)) → u ≡ v
 turned_ok {A} {E} {D} Q r x u v is ok at = let both : ◌≡◌ {A = Result A D} (Ok u) (Ok v) = sym is ∙ MatchResult-at_ok (λ y. x ≡ Ok y) (λ e. IsErrAnd x (Q e)) v ok at in cc
 

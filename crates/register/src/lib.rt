@@ -9,7 +9,6 @@ mod in_use;
 mod put;
 mod reading;
 mod replays;
-mod run_numbers;
 mod side;
 mod sides;
 mod state;
