@@ -6,6 +6,7 @@ mod assemble;
 mod calls;
 mod cancel;
 mod in_use;
+mod parts;
 mod put;
 mod reading;
 mod replays;
@@ -14,6 +15,7 @@ mod sides;
 mod state;
 mod take;
 
+pub use parts::Parts;
 pub use replays::{replay, replay_both};
 pub use side::Side;
 pub use state::Register;

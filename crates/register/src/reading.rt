@@ -30,12 +30,7 @@ impl<K: Coding, V: Coding, P: Permutation, A: Table, B: Table> Register<K, V, P,
     }
 
     // The numbers of a run of n keys under a value, or why it is refused on sight.
-    pub(crate) fn read_run(
-        &self,
-        key: K::Item,
-        n: u64,
-        value: V::Item,
-    ) -> Result<Run, RunRefusal>
+    pub(crate) fn read_run(&self, key: K::Item, n: u64, value: V::Item) -> Result<Run, RunRefusal>
         ensures { Reads (fixed K.Coding V.Coding P.Permutation A.Table B.Table self.now) key n value result }
     {
         if !is_run_length(n) {

@@ -41,8 +41,9 @@ impl<K: Coding, V: Coding, P: Permutation, A: Table, B: Table> Register<K, V, P,
             → Finds K.Coding V.Coding P.Permutation A.Table B.Table self.now m result }
     {
         let opened = self.opened.ok_or(Refusal::Closed)?;
-        let shape = Shape::new(self.keys.width(), self.values.width(), opened.b)
-            .ok_or(Refusal::Unreached)?;
+        let shape = Shape::new(self.keys.width(), self.values.width(), opened.b).ok_or(
+            Refusal::Unreached,
+        )?;
         Ok(InUse {
             side: opened.side,
             shape,

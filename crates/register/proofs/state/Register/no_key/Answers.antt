@@ -1,5 +1,5 @@
 use borrow.Author.Tests.{tests}
-use Rattle.std.proofs.Common.{◌≡◌, ℕ, ◌+◌, None, rules, ◌≢◌}
+use Rattle.std.proofs.Common.{◌≡◌, ◌+◌, None, rules, ◌≢◌}
 use Rattle.std.proofs.lemmas.Iterator.{first_from_Range}
 use Rattle.register.specs.Fixed.{fixed}
 use Rattle.register.proofs.Keys.{first_none}

@@ -6,7 +6,7 @@ use Rattle.model.specs.Model.{opened}
 use Rattle.model.specs.Step.{answer, take_judged, to_take}
 use Rattle.register.specs.declared.state.Register.{Register}
 use Rattle.dictionary.proofs.Scans.{kept_ok}
-use Rattle.register.specs.Fixed.{fixed}
+use Rattle.register.specs.Fixed.{fixed, parts_of}
 use Rattle.register.specs.Numbers.{Reached, RunEnds}
 use Rattle.register.proofs.OnSides.{same_but}
 use Rattle.register.proofs.Ends.{carried, passed_on, reached, read_good, read_ok, run_done, run_refused}
@@ -25,7 +25,7 @@ law g r =
     (lawful_mixing g.P.Permutation g.met.P.Permutation.within g.met.P.Permutation.returns)
     (lawful_kind g.A.Table g.met.A.Table.grouped g.met.A.Table.limited g.met.A.Table.fitting)
     (lawful_kind g.B.Table g.met.B.Table.grouped g.met.B.Table.limited g.met.B.Table.fitting)
-    r.keys r.values r.permutation r.first r.second
+    (parts_of r)
 
 pub returns-in_err-take_numbers : goal.returns-in_err-take_numbers
 returns-in_err-take_numbers g c =
