@@ -1,4 +1,4 @@
-//! A day's arrival list: how a line is read, what is found of a stay, and where its nights stand in a table.
+//! A day's arrival list: how a line is read, what is found of a stay, and what comes of its nights.
 //! Everything that the program at the desk decides stands here; the program prints it.
 #![tactic(auto)]
 
@@ -8,5 +8,4 @@ pub mod layout;
 pub mod lines;
 pub mod mix;
 pub mod outcome;
-pub mod place;
 pub mod stay;

@@ -9,12 +9,12 @@ use Rattle.model.specs.Model.{Mixing}
 use Rattle.model.proofs.Content.{content_push}
 use Rattle.model.proofs.Runs.{apart_push, one_none}
 use Rattle.dictionary.specs.Stored.{Stores, quotient_of, slot_of, stored}
-use Rattle.dictionary.proofs.Cut.{Mixes, Placed, quotient_is, slot_below, slot_is}
+use Rattle.dictionary.proofs.Cut.{Mixes, Placed, slot_below}
 use Rattle.dictionary.proofs.Found.{load_here, weighed_here}
 use Rattle.dictionary.proofs.Judged.{told_held, told_none}
 
 module _ {T : Type 0} {ta : table.Ghosts T} (pos : 0 < ta.group) {mi : Mixing} {t : T} {k v b : ℕ} {l : Entries} (mix : Mixes mi.forth mi.back k) (st : Stores ta mi t k v b l) (narrow : b ≤ k)
-    {m y s q : ℕ} (w : ℕ) (at : Placed mi.forth k b m y s q) (inside : m < 2 ^ k) (small : w < 2 ^ v)
+    {m s q : ℕ} (w : ℕ) (at : Placed mi.forth k b m s q) (inside : m < 2 ^ k) (small : w < 2 ^ v)
     (free : take_one (slot_of mi.forth k b) ta.group ta.limit l m (value_in l m) ≡ None) where
   add_goes : added ta.group ta.limit (ta.means t) s q w ≡ (stored mi.forth k v b (l ++ run_of m w 1), Ok tt)
   add_goes =
@@ -30,8 +30,8 @@ module _ {T : Type 0} {ta : table.Ghosts T} (pos : 0 < ta.group) {mi : Mixing} {
       weighed_here mix b narrow l st.below C v m w n inside small
       ∙ told_none (weigh_held C n (value_in l m)) (told_held slot S C l m n (value_in l m) (load_here mix b narrow l st.below S m pos) ∙ free) in
       ap (λ x. added S C x s q w) st.means
-      ∙ ap (λ x. added S C (stored forth k v b l) x q w) (slot_is at)
-      ∙ ap (λ x. added S C (stored forth k v b l) (slot m) x w) (quotient_is at)
+      ∙ ap (λ x. added S C (stored forth k v b l) x q w) at.slot
+      ∙ ap (λ x. added S C (stored forth k v b l) (slot m) x w) at.quotient
       ∙ ap (add_reply k v b slots (slot m) (quotient m) w) ok
       ∙ ap made (sym (content_push slot quotient (2 ^ b) l m w (slot_below mix b narrow m inside)))
 

@@ -1,5 +1,5 @@
 -- Where key numbers stand: the slots and quotients of permuted numbers.
-use Rattle.std.proofs.Common.{◌≡◌, ℕ, ◌+◌, ◌-◌, ◌*◌, ◌/◌, ◌%◌, ◌^◌, ◌<◌, ◌≤◌, true, false, ltb, sym, ap, ◌∙◌, arith}
+use Rattle.std.proofs.Common.{◌≡◌, ℕ, ◌+◌, ◌-◌, ◌*◌, ◌^◌, ◌<◌, ◌≤◌, true, false, ltb, sym, ap, ◌∙◌, arith}
 use Rattle.std.proofs.lemmas.Nat.{le-div, mod_below, pow-add, pow_pos}
 use Rattle.std.proofs.ByRecursion.{All-weaker}
 use Rattle.std.proofs.lemmas.Bool.{and_from, and_left, le-ltb, lt-ltb}
@@ -45,15 +45,7 @@ module _ {forth back : ℕ → ℕ} {k : ℕ} (mix : Mixes forth back k) (b : �
   pub slots_below : (l : Entries) → All (λ e. e.0 < 2 ^ k) l → All (λ e. slot_of forth k b e.0 < 2 ^ b) l
   slots_below l below = All-weaker (λ e. e.0 < 2 ^ k) (λ e. slot_of forth k b e.0 < 2 ^ b) (λ e h. slot_below e.0 h) l below
 
--- slot s and quotient q are those of the permuted number y of the key number m
-pub record Placed (forth : ℕ → ℕ) (k b m y s q : ℕ) : Type 0 where
-  pub mixed : y ≡ forth m
-  pub slot : s ≡ y / 2 ^ (k - b)
-  pub quotient : q ≡ y % 2 ^ (k - b)
-
-module _ {forth : ℕ → ℕ} {k b m y s q : ℕ} (at : Placed forth k b m y s q) where
-  pub slot_is : s ≡ slot_of forth k b m
-  slot_is = at.slot ∙ ap (λ x. x / 2 ^ (k - b)) at.mixed
-
-  pub quotient_is : q ≡ quotient_of forth k b m
-  quotient_is = at.quotient ∙ ap (λ x. x % 2 ^ (k - b)) at.mixed
+-- slot s and quotient q are those of the key number m
+pub record Placed (forth : ℕ → ℕ) (k b m s q : ℕ) : Type 0 where
+  pub slot : s ≡ slot_of forth k b m
+  pub quotient : q ≡ quotient_of forth k b m

@@ -1,4 +1,5 @@
 pub mod Cut
+pub mod Counted
 pub mod Lawful
 pub mod Found
 pub mod Scans

@@ -1,11 +1,12 @@
 -- Entries moved into a table with one more bit of slots, in the order of the walk.
-use Rattle.std.proofs.Common.{◌≡◌, ℕ, suc, ◌+◌, ◌-◌, ◌*◌, ◌/◌, ◌%◌, ◌^◌, ◌<◌, ◌≤◌, Bool, true, false, cond, eqb, List, [], ◌∷◌, ◌++◌, map, length, get_or, take, drop, Some, None, Ok, Option, Result, sym, refl, ap, ◌∙◌, subst, arith}
+use Rattle.std.proofs.Common.{◌≡◌, ℕ, suc, ◌+◌, ◌-◌, ◌*◌, ◌/◌, ◌^◌, ◌<◌, ◌≤◌, Bool, true, false, cond, eqb, List, [], ◌∷◌, ◌++◌, map, length, get_or, take, drop, Some, None, Ok, Option, Result, sym, refl, ap, ◌∙◌, subst, arith}
 use Rattle.std.proofs.lemmas.Nat.{div_below, pow-add}
 use Rattle.std.proofs.ByRecursion.{All-get_or, all_kept_by}
 use Rattle.std.proofs.lemmas.List.{drop_more, get_or-map, length-map, take_all, take-append-drop, take_more}
 use Rattle.std.proofs.lemmas.Bool.{eq-eqb, lt-leb, ne_eqb}
 use Rattle.table.specs.declared.table.Table as table
 use Rattle.table.specs.declared.refusal.TableRefusal.{TableRefusal}
+use Rattle.table.specs.Slots.{slot as slot_in, quotient as quotient_in}
 use Rattle.table.specs.Meaning.{Good, WellFormed, added, formed, formed_anew, formed_at, value_in}
 use Rattle.model.specs.Entries.{Entries, content, count_if, group_load, groups_hold, take_one, take_room, walk}
 use Rattle.model.specs.Model.{Mixing}
@@ -29,16 +30,6 @@ lawful_mixes mi law k e = subst (λ n. Mixes mi.forth mi.back n) e (record { wit
 -- half of a slot of the larger table
 pub half_below : (s b : ℕ) → s < 2 ^ (b + 1) → s / 2 < 2 ^ b
 half_below s b h = let twice : s < 2 ^ b * 2 = let e = pow-add 2 b 1 in omega arith in div_below s 2 (2 ^ b) (omega arith) twice
-
--- the place in the larger table
-pub placed_larger : (forth : ℕ → ℕ) (k b m : ℕ) {y s q : ℕ} → y ≡ forth m → s ≡ y / 2 ^ (k - b - 1) → q ≡ y % 2 ^ (k - b - 1) → Placed forth k (b + 1) m y s q
-placed_larger forth k b m {y} {s} {q} mixed is-slot is-quotient =
-    let e : k - b - 1 ≡ k - (b + 1) = omega arith in
-    record { mixed = mixed; slot = is-slot ∙ ap (λ x. y / 2 ^ x) e; quotient = is-quotient ∙ ap (λ x. y % 2 ^ x) e }
-
--- the permuted number that was told
-pub first_told : {y w z u : ℕ} (o : Option (ℕ × ℕ)) → o ≡ Some (y, w) → o ≡ Some (z, u) → y ≡ z
-first_told {y} {w} {z} {u} o p q = let both : ◌≡◌ {A = ℕ × ℕ} (y, w) (z, u) = cc in ap (λ (x : ℕ × ℕ). x.0) both
 
 none_mid : (l : Entries) (e : ℕ × ℕ) (r : Entries) (x : ℕ) → value_in (l ++ (e ∷ r)) x ≡ None → e.0 ≡ x → ⊥
 none_mid [] e r x h = (not_there e r x h).0
@@ -98,7 +89,7 @@ module _ {A : Type 0} {ta : table.Ghosts A}
       (to : Stores tb mi u k v (b + 1) (take (length (walk (slot_of mi.forth k b) s l) + i) (walk (slot_of mi.forth k b) (2 ^ b) l)))
       {y w ps pq : ℕ}
       (is : ◌≡◌ {A = Option (ℕ × ℕ)} (Some (y, w)) (Some (mi.forth (get_or (in_slot (slot_of mi.forth k b) s l) i (0, 0)).0, (get_or (in_slot (slot_of mi.forth k b) s l) i (0, 0)).1)))
-      (slot_at : ps ≡ y / 2 ^ (k - b - 1)) (quotient_at : pq ≡ y % 2 ^ (k - b - 1)) where
+      (slot_at : ps ≡ slot_in k (b + 1) y) (quotient_at : pq ≡ quotient_in k (b + 1) y) where
     abbrev e : ℕ × ℕ
     e = get_or (in_slot (slot_of mi.forth k b) s l) i (0, 0)
 
@@ -117,8 +108,10 @@ module _ {A : Type 0} {ta : table.Ghosts A}
     next : get_or whole c (0, 0) ≡ e
     next = walk_at (slot_of mi.forth k b) l (quotient_of mi.forth k b) (2 ^ b) s i h less
 
-    at : Placed mi.forth k (b + 1) e.0 y ps pq
-    at = placed_larger mi.forth k b e.0 (ap (λ (x : ℕ × ℕ). x.0) both) slot_at quotient_at
+    at : Placed mi.forth k (b + 1) e.0 ps pq
+    at =
+        let y_is : y ≡ mi.forth e.0 = ap (λ (x : ℕ × ℕ). x.0) both in
+        record { slot = slot_at ∙ ap (slot_in k (b + 1)) y_is; quotient = quotient_at ∙ ap (quotient_in k (b + 1)) y_is }
 
     inside : e.0 < 2 ^ k
     inside = All-get_or (λ d. d.0 < 2 ^ k) (in_slot (slot_of mi.forth k b) s l) i (0, 0) less (all_kept_by (λ d. eqb (slot_of mi.forth k b d.0) s) (λ d. d.0 < 2 ^ k) l st.below)

@@ -2,9 +2,11 @@
 use Rattle.std.proofs.Common.{◌≡◌, ℕ, zero, suc, ◌+◌, ◌*◌, ◌/◌, ◌%◌, ◌^◌, ◌<◌, ◌≤◌, Bool, true, false, cond, ◌&&◌, eqb, ltb, leb, ◌⊎◌, [], ◌∷◌, length, get_or, take, sym, refl, ap, ◌∙◌, subst, inl, inr, ⊎_elim, suc-mul, arith}
 use Rattle.std.proofs.lemmas.Nat.{div-add-mod', div_below, le-div, mod_below, pow-add, shl_whole}
 use Rattle.std.proofs.lemmas.List.{take_more}
-use Rattle.std.proofs.lemmas.Bool.{and_from, and_parts, cases_Bool, cases_eq, cases_lt, le-leb, leb-true, lt-ltb, ltb-true, ne_eqb}
+use Rattle.std.proofs.lemmas.Bool.{and_from, and_parts, cases_Bool, cases_eq, cases_lt, le-leb, leb-false, leb-true, lt-ltb, ltb-true, ne_eqb}
 use Rattle.std.proofs.lemmas.Bool.Decides.{Decides-eqb, same_from_decides, nat_tests}
-use Rattle.std.specs.List.{AllByRecursion as All}
+use Rattle.std.proofs.lemmas.List.FromFn.{get_or-range_with_len, length-range_with_len}
+use Rattle.std.specs.Bool.{MatchBool}
+use Rattle.std.specs.List.{AllByRecursion as All, AllWithin, HoldsAt, range_with_len}
 use Rattle.table.specs.Slots.{within}
 use Rattle.table.proofs.Groups.{inside_groups}
 use Rattle.model.specs.Entries.{Entries, count_if, entries_hold, group_load, groups_hold}
@@ -142,3 +144,24 @@ two_shl b h = let e = pow-add 2 b 1 in let two : 2 < 2 ^ 2 = omega arith in let 
 pub group_told : (slot : ℕ → ℕ) (l : Entries) (S C size limit g : ℕ) → 0 < S → size ≡ S → limit ≡ C → (r : Bool) → r ≡ within limit (range_load slot (g * size) size l) → r ≡ within C (group_load slot S l g)
 group_told slot l S C size limit g pos sized limited r is =
     is ∙ ap (λ x. within limit (range_load slot (g * x) x l)) sized ∙ ap (λ x. within x (range_load slot (g * S) S l)) limited ∙ ap (within C) (range_group slot l S g pos)
+
+-- what `all` says of the numbers below n
+pub all_told : (Yes No : ℕ → Type 0) (n : ℕ) (r : Bool) → MatchBool r (AllWithin Yes (range_with_len 0 n) 0 (length (range_with_len 0 n))) ((k : ℕ) × (k < length (range_with_len 0 n)) × HoldsAt No (range_with_len 0 n) k)
+    → MatchBool r ((k : ℕ) → k < n → Yes k) ((k : ℕ) × (k < n) × No k)
+all_told Yes No n true h = λ k less. let many = length-range_with_len 0 n in subst Yes (at k less) (h k 0 (omega arith) (omega (arith, less, many)))
+  where
+    at : (k : ℕ) → k < n → get_or (range_with_len 0 n) k 0 ≡ k
+    at k less = let e = get_or-range_with_len 0 n k 0 less in omega (arith, e)
+all_told Yes No n false h = let many = length-range_with_len 0 n in let less : h.0 < n = omega (arith, h.1, many) in (h.0, less, subst No (let e = get_or-range_with_len 0 n h.0 0 less in omega (arith, e)) (h.2 0))
+
+-- the same, where what is said of each says more
+pub by_cases : (r : Bool) (Yes No : ℕ → Type 0) (n : ℕ) (P Q : ℕ → Type 0) → ((k : ℕ) → k < n → Yes k → P k) → ((k : ℕ) → k < n → No k → Q k) → MatchBool r ((k : ℕ) → k < n → Yes k) ((k : ℕ) × (k < n) × No k)
+    → MatchBool r ((k : ℕ) → k < n → P k) ((k : ℕ) × (k < n) × Q k)
+by_cases true Yes No n P Q f g h = λ k less. f k less (h k less)
+by_cases false Yes No n P Q f g h = (h.0, h.1, g h.0 h.1 h.2)
+
+-- whether every group holds, by what is said of each of the first n
+pub hold_told : (slot : ℕ → ℕ) (S C : ℕ) (l : Entries) (n : ℕ) → 0 < S → All (λ e. slot e.0 < n * S) l → (r : Bool) → MatchBool r ((g : ℕ) → g < n → true ≡ within C (group_load slot S l g)) ((g : ℕ) × (g < n) × (false ≡ within C (group_load slot S l g)))
+    → r ≡ groups_hold slot S C l
+hold_told slot S C l n pos below true h = all_hold slot S C l n pos below (λ g less. leb-true (group_load slot S l g) C (sym (h g less)))
+hold_told slot S C l n pos below false h = not_hold slot S C l h.0 (leb-false (group_load slot S l h.0) C (sym h.2))

@@ -11,7 +11,7 @@ use Rattle.model.proofs.Content.{content_without}
 use Rattle.model.proofs.Removals.{without_one}
 use Rattle.model.proofs.Runs.{apart_without, held_cancelled, value_without}
 use Rattle.dictionary.specs.Stored.{Stores, mixing, quotient_of, slot_of, stored}
-use Rattle.dictionary.proofs.Cut.{Placed, in_here, key_from, quotient_is, slot_below, slot_is}
+use Rattle.dictionary.proofs.Cut.{Placed, in_here, key_from, slot_below}
 use Rattle.dictionary.proofs.Lawful.{Lawful, mixes}
 use Rattle.dictionary.proofs.Found.{value_here}
 
@@ -39,7 +39,7 @@ held_still l m w n i h none =
     value_without m i l (m + i) ∙ ap (λ t. cond t None (value_in l (m + i))) (past_run m i) ∙ held_cancelled l m w 0 n (m + i) none (in_run m n i h)
 
 module _ {P T : Type 0} {pm : permutation.Ghosts P} {ta : table.Ghosts T} (law : Lawful pm ta) {p : P} {t : T} {k v b : ℕ} {l : Entries} (st : Stores ta (mixing pm p) t k v b l) (narrow : b ≤ k)
-    {m y s q : ℕ} (at : Placed (pm.forth p) k b m y s q) (inside : m < 2 ^ k) (u : ℕ) (held : value_in l m ≡ Some u) where
+    {m s q : ℕ} (at : Placed (pm.forth p) k b m s q) (inside : m < 2 ^ k) (u : ℕ) (held : value_in l m ≡ Some u) where
   remove_goes : removed_from (ta.means t) s q ≡ (stored (pm.forth p) k v b (without l m), Ok u)
   remove_goes =
       let forth = pm.forth p in
@@ -49,8 +49,8 @@ module _ {P T : Type 0} {pm : permutation.Ghosts P} {ta : table.Ghosts T} (law :
       let slots = content slot quotient (2 ^ b) l in
       let made : List Entries → (Meaning × Result ℕ TableRefusal) = λ x. (formed k v b x, Ok u) in
       ap (λ x. removed_from x s q) st.means
-      ∙ ap (λ x. removed_from (stored forth k v b l) x q) (slot_is at)
-      ∙ ap (λ x. removed_from (stored forth k v b l) (slot m) x) (quotient_is at)
+      ∙ ap (λ x. removed_from (stored forth k v b l) x q) at.slot
+      ∙ ap (λ x. removed_from (stored forth k v b l) (slot m) x) at.quotient
       ∙ ap (remove_at k v b slots (slot m) (quotient m)) (in_here mix b narrow m inside)
       ∙ ap (remove_end k v b slots (slot m) (quotient m)) (value_here mix b narrow l st.below m inside ∙ held)
       ∙ ap made (sym (content_without slot quotient (2 ^ k) (key_from mix b narrow) (2 ^ b) l m st.below inside (slot_below mix b narrow m inside)))

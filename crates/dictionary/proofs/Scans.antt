@@ -1,17 +1,43 @@
 -- A run is judged place by place: the first place at which something stands against it.
-use Rattle.std.proofs.Common.{◌≡◌, ℕ, zero, suc, ◌+◌, ◌<◌, ◌≤◌, [], ◌∷◌, ◌++◌, Some, None, Option, sym, refl, ap, ◌∙◌, ⊎_elim, arith}
+use Rattle.std.proofs.Common.{◌≡◌, ℕ, zero, suc, ◌+◌, ◌<◌, ◌≤◌, [], ◌∷◌, ◌++◌, Some, None, Ok, Err, Option, Result, sym, refl, ap, ◌∙◌, subst, ⊎_elim, arith}
 use Rattle.std.proofs.lemmas.List.{append_assoc, append-nil}
 use Rattle.std.proofs.lemmas.Bool.{cases_eq}
+use Rattle.std.proofs.lemmas.Result.{MatchResult-at_ok}
+use Rattle.std.specs.Result.{IsErrAnd, MatchResult}
 use Rattle.table.specs.Meaning.{value_in}
 use Rattle.model.specs.declared.refusal.Refusal.{Refusal}
 use Rattle.model.specs.declared.run_refusal.RunRefusal.{RunRefusal}
 use Rattle.model.specs.Entries.{Entries, cancel_one, cancel_refusal, first_of, run_of, take_one, take_refusal}
 use Rattle.model.proofs.Runs.{first_none}
+use Rattle.dictionary.specs.Results.{reply}
 
 -- what stands against the n places from i on, where `judge` says what stands against each
 abbrev pub scan : (judge : ℕ → Option Refusal) → (i n : ℕ) → Option RunRefusal
 scan judge i zero = None
 scan judge i (suc n) = first_of i (scan judge (suc i) n) (judge i)
+
+-- what a refusal says stands against it
+pub reply_err : {E : Type 0} (o : Option E) (e : E) → reply o ≡ Err e → o ≡ Some e
+reply_err None e is = let z : ◌≡◌ {A = ℕ} 0 1 = cc in absurd (omega arith)
+reply_err (Some x) e is = cc
+
+-- nothing stands against what is done
+pub reply_ok : {E : Type 0} (o : Option E) → reply o ≡ Ok tt → o ≡ None
+reply_ok None is = refl
+reply_ok (Some x) is = let z : ◌≡◌ {A = ℕ} 0 1 = cc in absurd (omega arith)
+
+-- an answer whose error is turned into another
+pub turned : {A E D : Type 0} (Q : E → D → Type 0) (r : Result A E) (x : Result A D) (f : D) → x ≡ Err f → MatchResult r (λ u. x ≡ Ok u) (λ e. IsErrAnd x (Q e)) → (e : E) × (r ≡ Err e) × Q e f
+turned Q (Ok u) x f is at = let z : ◌≡◌ {A = ℕ} 0 1 = cc in absurd (omega arith)
+turned Q (Err e) x f is at = (e, refl, subst (λ y. IsErrAnd y (Q e)) is at)
+
+-- and one whose value is kept
+pub kept_ok : {A E D : Type 0} (Q : E → D → Type 0) (r : Result A E) (x : Result A D) (u : A) → x ≡ Ok u → MatchResult r (λ y. x ≡ Ok y) (λ e. IsErrAnd x (Q e)) → r ≡ Ok u
+kept_ok {A} {E} {D} Q (Ok v) x u is at = let both : ◌≡◌ {A = Result A D} (Ok u) (Ok v) = sym is ∙ at in let same : u ≡ v = cc in ap Ok (sym same)
+kept_ok Q (Err e) x u is at = absurd (subst (λ y. IsErrAnd y (Q e)) is at)
+
+pub turned_ok : {A E D : Type 0} (Q : E → D → Type 0) (r : Result A E) (x : Result A D) (u v : A) → x ≡ Ok u → r ≡ Ok v → MatchResult r (λ y. x ≡ Ok y) (λ e. IsErrAnd x (Q e)) → u ≡ v
+turned_ok {A} {E} {D} Q r x u v is ok at = let both : ◌≡◌ {A = Result A D} (Ok u) (Ok v) = sym is ∙ MatchResult-at_ok (λ y. x ≡ Ok y) (λ e. IsErrAnd x (Q e)) v ok at in cc
 
 module _ (judge : ℕ → Option Refusal) where
   -- nothing, where nothing stands against any
@@ -49,6 +75,14 @@ module _ (judge : ℕ → Option Refusal) where
 
   pub run_clear : (n : ℕ) → scan judge 0 n ≡ None → (j : ℕ) → j < n → judge j ≡ None
   run_clear n h j less = scan_clear 0 n h j (omega arith) (omega arith)
+
+  -- the answer where something stands against a place, and where nothing does
+  pub run_stops : (n j : ℕ) (f : RunRefusal) (e : Refusal) → j < n → ((h : ℕ) → h < j → judge h ≡ None) → (r : Result (Unit {0}) Refusal) → r ≡ reply (judge j) → r ≡ Err e → f ≡ record { place = j; why = e }
+      → ◌≡◌ {A = Result (Unit {0}) RunRefusal} (Err f) (reply (scan judge 0 n))
+  run_stops n j f e less h r told is at = ap Err at ∙ sym (ap reply (run_first n j e less h (reply_err (judge j) e (sym told ∙ is))))
+
+  pub run_goes : (n i : ℕ) → n ≤ i → ((h : ℕ) → h < i → judge h ≡ None) → ◌≡◌ {A = Result (Unit {0}) RunRefusal} (Ok tt) (reply (scan judge 0 n))
+  run_goes n i all h = sym (ap reply (run_none n (λ j less. h j (omega arith))))
 
 -- one more key at the end of a run
 pub run_snoc : (m w i : ℕ) → run_of m w (suc i) ≡ run_of m w i ++ ((m + i, w) ∷ [])

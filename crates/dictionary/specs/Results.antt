@@ -3,7 +3,7 @@
 --   reach, InReach                how many keys of a run there are; that all of them are, and the value too
 --   past                          what stands against a run that is longer than it reaches
 --   take_judged, cancel_judged    what stands against a run, at the first of its places that is refused
---   reply, list_after                the answer to a run, and the list after it
+--   reply, list_after             the answer, by what stands against a run or a key; the list after a run
 --   listed_at                     the entry at a place of the walk
 --   moved                         the answer to a move into a table with one more bit
 use Rattle.std.specs.Prelude.{ℕ, ◌+◌, ◌-◌, ◌^◌, ◌<◌, min, Bool, true, false, cond, length, Some, None, Ok, Err, Option, Result, nat_lt, slice_index_or}
@@ -54,8 +54,8 @@ take_judged slot S C k v l m n w = past (reach k v m n w) n (take_refusal slot S
 abbrev pub cancel_judged : (k v : ℕ) → Entries → (m n w : ℕ) → Option RunRefusal
 cancel_judged k v l m n w = past (reach k v m n w) n (cancel_refusal l m w 0 (reach k v m n w))
 
--- the answer to a run
-abbrev pub reply : Option RunRefusal → Result (Unit {0}) RunRefusal
+-- the answer, by what stands against it
+abbrev pub reply : {E : Type 0} → Option E → Result (Unit {0}) E
 reply None = Ok tt
 reply (Some e) = Err e
 

@@ -3,6 +3,7 @@
 --   stored                 the meaning: formed, with the content of the list
 --   mixing                 a permutation as the model has it
 --   Stores                 a sound table that means it, with keys below 2^k and apart
+--   Holds, slot_by         a table that holds the list under an addressing; the slot of a key number under it
 --   in_slot, range_load    the entries of one slot; how many there are in some slots
 use Rattle.std.specs.Prelude.{◌≡◌, ℕ, ◌+◌, ◌^◌, ◌<◌, ◌&&◌, filter, nat_eq, nat_le, nat_lt}
 use Rattle.std.specs.List.{AllByRecursion}
@@ -13,6 +14,7 @@ use Rattle.table.specs.Meaning.{Meaning, formed}
 use Rattle.model.specs.Entries.{Entries, content, count_if}
 use Rattle.model.specs.Model.{Mixing}
 use Rattle.model.specs.Laws.{Apart}
+use Rattle.dictionary.specs.declared.addressing.Addressing.{Addressing}
 
 -- the slot of a key number of k bits among 2^b
 abbrev pub slot_of : (forth : ℕ → ℕ) → (k b m : ℕ) → ℕ
@@ -37,6 +39,14 @@ pub record Stores {T : Type 0} (ta : table.Ghosts T) (mix : Mixing) (t : T) (k v
   pub below : AllByRecursion (λ e. e.0 < 2 ^ k) l
   pub apart : Apart l
   pub widths : mix.width ≡ k
+
+-- the table holds the list, under an addressing
+abbrev pub Holds : {P T : Type 0} → permutation.Ghosts P → table.Ghosts T → Addressing P → T → Entries → Type 0
+Holds pm ta by t l = Stores ta (mixing pm by.permutation.now) t by.shape.k by.shape.v by.shape.b l
+
+-- the slot of a key number, under an addressing
+abbrev pub slot_by : {P : Type 0} → permutation.Ghosts P → Addressing P → (m : ℕ) → ℕ
+slot_by pm by m = slot_of (pm.forth by.permutation.now) by.shape.k by.shape.b m
 
 -- the entries whose key stands in slot s, in order of arrival
 abbrev pub in_slot : (slot : ℕ → ℕ) → (s : ℕ) → Entries → Entries

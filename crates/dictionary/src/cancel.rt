@@ -1,131 +1,90 @@
-ghost use Rattle.std.specs.Prelude.{◌≡◌, ℕ, ◌+◌, ◌-◌, ◌^◌, ◌<◌, ◌≤◌, length, Some, None, Ok, Err};
+ghost use Rattle.std.specs.Prelude.{◌≡◌, ℕ, ◌+◌, ◌^◌, ◌<◌, length, Some, None, Ok, Err};
 ghost use Rattle.table.specs.Meaning.{value_in};
 ghost use Rattle.model.specs.declared.run_refusal.RunRefusal.{RunRefusal as Refused};
 ghost use Rattle.model.specs.Entries.{Entries, without_run, cancel_one, cancel_refusal};
-ghost use Rattle.dictionary.specs.Stored.{Stores, mixing};
-ghost use Rattle.dictionary.specs.Results.{InReach, cancel_judged, reply, list_after};
+ghost use Rattle.dictionary.specs.Stored.{Holds};
+ghost use Rattle.dictionary.specs.Results.{cancel_judged, reply, list_after};
 
-use crate::look::look_up;
-use crate::places::place_of;
-use crate::reach::reached;
+use crate::addressing::Addressing;
+use crate::reached::Reached;
+use crate::run::Run;
 use model::refusal::Refusal;
 use model::run_refusal::RunRefusal;
 use permutation::Permutation;
 use table::refusal::TableRefusal;
-use table::shape::Shape;
 use table::table::Table;
 
-/// Cancels the n key numbers from m on, each of them held under a value number, all of them or none.
-pub fn cancel_run<P: Permutation, T: Table>(
-    permutation: &P,
-    table: &mut T,
-    shape: Shape,
-    m: u64,
-    n: u64,
-    w: u64,
-) -> Result<(), RunRefusal>
-    ensures value { (l : Entries) → Stores T.Table (mixing P.Permutation permutation.now) table.old shape.k shape.v shape.b l
-        → result ≡ reply (cancel_judged shape.k shape.v l m n w) }
-    ensures after { (l : Entries) → Stores T.Table (mixing P.Permutation permutation.now) table.old shape.k shape.v shape.b l
-        → Stores T.Table (mixing P.Permutation permutation.now) table.new shape.k shape.v shape.b (list_after l (without_run m n l) (cancel_judged shape.k shape.v l m n w)) }
-    ensures kept { (l : Entries) → Stores T.Table (mixing P.Permutation permutation.now) table.old shape.k shape.v shape.b l
-        → (e : Refused) → result ≡ Err e → table.new ≡ table.old }
-    ensures len { length (T.Table.words table.new) ≡ length (T.Table.words table.old) }
-    ensures fits { T.Table.fits table.new ≡ T.Table.fits table.old }
-{
-    let count = reached(shape, m, n, w);
-    if let Some(refusal) = judge_run(permutation, table, shape, m, count, w) {
-        return Err(refusal);
+impl<'a, P: Permutation> Addressing<'a, P> {
+    /// Cancels the keys of a run, each of them held under its value, all of them or none.
+    pub fn cancel_run<T: Table>(&self, table: &mut T, run: Run) -> Result<(), RunRefusal>
+        ensures value { (l : Entries) → Holds P.Permutation T.Table self.now table.old l
+            → result ≡ reply (cancel_judged self.now.shape.k self.now.shape.v l run.first run.length run.value) }
+        ensures after { (l : Entries) → Holds P.Permutation T.Table self.now table.old l
+            → Holds P.Permutation T.Table self.now table.new (list_after l (without_run run.first run.length l)
+            (cancel_judged self.now.shape.k self.now.shape.v l run.first run.length run.value)) }
+        ensures kept { (l : Entries) → Holds P.Permutation T.Table self.now table.old l → (e : Refused) → result ≡ Err e → table.new ≡ table.old }
+        ensures len { length (T.Table.words table.new) ≡ length (T.Table.words table.old) }
+        ensures fits { T.Table.fits table.new ≡ T.Table.fits table.old }
+    {
+        let reached = self.reached(run);
+        reached.may_cancel(table)?;
+        reached.covers(run.length)?;
+        reached.cancel(table)
     }
-    if count < n {
-        return Err(Refusal::Table(TableRefusal::OutOfRange).at(count));
+
+    // One key number out of the table.
+    pub(crate) fn remove_key<T: Table>(&self, table: &mut T, m: u64) -> Result<u64, TableRefusal>
+        ensures value { (l : Entries) → Holds P.Permutation T.Table self.now table.old l → m < 2 ^ self.now.shape.k
+            → (u : ℕ) → value_in l m ≡ Some u → result ≡ Ok u }
+        ensures after { (l : Entries) → Holds P.Permutation T.Table self.now table.old l → m < 2 ^ self.now.shape.k
+            → (u : ℕ) → value_in l m ≡ Some u → Holds P.Permutation T.Table self.now table.new (without_run m 1 l) }
+        ensures len { length (T.Table.words table.new) ≡ length (T.Table.words table.old) }
+        ensures fits { T.Table.fits table.new ≡ T.Table.fits table.old }
+    {
+        let place = self.place(m);
+        table.remove(place.slot, place.quotient)
     }
-    remove_run(permutation, table, shape, m, count, w)
 }
 
-// What stands against cancelling one key number.
-fn judge<P: Permutation, T: Table>(
-    permutation: &P,
-    table: &T,
-    shape: Shape,
-    m: u64,
-    w: u64,
-) -> Option<Refusal>
-    ensures { (l : Entries) → Stores T.Table (mixing P.Permutation permutation.now) table.now shape.k shape.v shape.b l
-        → m < 2 ^ shape.k → result ≡ cancel_one w (value_in l m) }
-{
-    let u = match look_up(permutation, table, shape, m) {
-        Ok(u) => u,
-        Err(e) => return Some(Refusal::Table(e)),
-    };
-    if u == w {
-        return None;
-    }
-    Some(Refusal::OtherValue)
-}
-
-// What stands against cancelling the n key numbers from m on, at the first of them that is refused.
-fn judge_run<P: Permutation, T: Table>(
-    permutation: &P,
-    table: &T,
-    shape: Shape,
-    m: u64,
-    n: u64,
-    w: u64,
-) -> Option<RunRefusal>
-    requires { n ≤ 2 ^ 32 - m }
-    ensures { (l : Entries) → Stores T.Table (mixing P.Permutation permutation.now) table.now shape.k shape.v shape.b l
-        → InReach shape.k shape.v m n w → result ≡ cancel_refusal l m w 0 n }
-{
-    for i in 0..n {
-        if let Some(why) = judge(permutation, table, shape, m + i, w) {
-            return Some(why.at(i));
+impl<'a, P: Permutation> Reached<'a, P> {
+    // What stands against cancelling key i.
+    fn may_cancel_at<T: Table>(&self, table: &T, i: u64) -> Result<(), Refusal>
+        requires { i < self.now.run.length }
+        ensures { (l : Entries) → Holds P.Permutation T.Table self.now.by table.now l
+            → result ≡ reply (cancel_one self.now.run.value (value_in l (self.now.run.first + i))) }
+    {
+        if self.by.look_up(table, self.run.first + i)? != self.run.value {
+            return Err(Refusal::OtherValue);
         }
+        Ok(())
     }
-    None
-}
 
-// One key number out of the table.
-fn remove_key<P: Permutation, T: Table>(
-    permutation: &P,
-    table: &mut T,
-    shape: Shape,
-    m: u64,
-) -> Result<u64, TableRefusal>
-    ensures value { (l : Entries) → Stores T.Table (mixing P.Permutation permutation.now) table.old shape.k shape.v shape.b l
-        → m < 2 ^ shape.k → (u : ℕ) → value_in l m ≡ Some u → result ≡ Ok u }
-    ensures after { (l : Entries) → Stores T.Table (mixing P.Permutation permutation.now) table.old shape.k shape.v shape.b l
-        → m < 2 ^ shape.k → (u : ℕ) → value_in l m ≡ Some u
-        → Stores T.Table (mixing P.Permutation permutation.now) table.new shape.k shape.v shape.b (without_run m 1 l) }
-    ensures len { length (T.Table.words table.new) ≡ length (T.Table.words table.old) }
-    ensures fits { T.Table.fits table.new ≡ T.Table.fits table.old }
-{
-    let place = place_of(shape.k - shape.b, permutation.forth(m));
-    table.remove(place.slot, place.quotient)
-}
-
-// The n key numbers from m on out of the table, after `judge_run` has found nothing against it.
-fn remove_run<P: Permutation, T: Table>(
-    permutation: &P,
-    table: &mut T,
-    shape: Shape,
-    m: u64,
-    n: u64,
-    w: u64,
-) -> Result<(), RunRefusal>
-    requires { n ≤ 2 ^ 32 - m }
-    ensures value { (l : Entries) → Stores T.Table (mixing P.Permutation permutation.now) table.old shape.k shape.v shape.b l
-        → InReach shape.k shape.v m n w → cancel_refusal l m w 0 n ≡ None → result ≡ Ok tt }
-    ensures after { (l : Entries) → Stores T.Table (mixing P.Permutation permutation.now) table.old shape.k shape.v shape.b l
-        → InReach shape.k shape.v m n w → cancel_refusal l m w 0 n ≡ None
-        → Stores T.Table (mixing P.Permutation permutation.now) table.new shape.k shape.v shape.b (without_run m n l) }
-    ensures len { length (T.Table.words table.new) ≡ length (T.Table.words table.old) }
-    ensures fits { T.Table.fits table.new ≡ T.Table.fits table.old }
-{
-    for i in 0..n {
-        if let Err(_) = remove_key(permutation, table, shape, m + i) {
-            return Err(Refusal::Unreached.at(i));
+    // What stands against cancelling the run, at the first of its keys that is refused.
+    fn may_cancel<T: Table>(&self, table: &T) -> Result<(), RunRefusal>
+        ensures { (l : Entries) → Holds P.Permutation T.Table self.now.by table.now l
+            → result ≡ reply (cancel_refusal l self.now.run.first self.now.run.value 0 self.now.run.length) }
+    {
+        for i in 0..self.run.length {
+            self.may_cancel_at(table, i).map_err(|why| why.at(i))?;
         }
+        Ok(())
     }
-    Ok(())
+
+    // The keys out of the table, after `may_cancel` has found nothing against it.
+    fn cancel<T: Table>(&self, table: &mut T) -> Result<(), RunRefusal>
+        ensures value { (l : Entries) → Holds P.Permutation T.Table self.now.by table.old l
+            → cancel_refusal l self.now.run.first self.now.run.value 0 self.now.run.length ≡ None → result ≡ Ok tt }
+        ensures after { (l : Entries) → Holds P.Permutation T.Table self.now.by table.old l
+            → cancel_refusal l self.now.run.first self.now.run.value 0 self.now.run.length ≡ None
+            → Holds P.Permutation T.Table self.now.by table.new (without_run self.now.run.first self.now.run.length l) }
+        ensures len { length (T.Table.words table.new) ≡ length (T.Table.words table.old) }
+        ensures fits { T.Table.fits table.new ≡ T.Table.fits table.old }
+    {
+        for i in 0..self.run.length {
+            self.by
+                .remove_key(table, self.run.first + i)
+                .map_err(|_| Refusal::Unreached.at(i))?;
+        }
+        Ok(())
+    }
 }

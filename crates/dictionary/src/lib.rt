@@ -2,15 +2,17 @@
 //! A table that holds a list of entries answers as the list does, and then holds the list after the operation.
 #![tactic(auto)]
 
+mod addressing;
 mod cancel;
 mod look;
 mod moves;
-mod place;
 mod places;
 mod reach;
+mod reached;
+mod run;
+mod shaped;
 mod take;
 
-pub use cancel::cancel_run;
-pub use look::{entry_at, look_up};
+pub use addressing::Addressing;
 pub use moves::redistribute;
-pub use take::take_run;
+pub use run::Run;

@@ -1,160 +1,108 @@
-ghost use Rattle.std.specs.Prelude.{◌≡◌, ℕ, ◌+◌, ◌-◌, ◌/◌, ◌^◌, ◌<◌, ◌≤◌, ◌++◌, length, None, Ok, Err};
+ghost use Rattle.std.specs.Prelude.{◌≡◌, ℕ, ◌+◌, ◌/◌, ◌^◌, ◌<◌, ◌≤◌, ◌++◌, length, None, Ok, Err};
 ghost use Rattle.table.specs.Meaning.{value_in};
 ghost use Rattle.model.specs.declared.run_refusal.RunRefusal.{RunRefusal as Refused};
 ghost use Rattle.model.specs.Entries.{Entries, run_of, group_load, take_one, take_refusal};
-ghost use Rattle.dictionary.specs.Stored.{Stores, mixing, slot_of};
-ghost use Rattle.dictionary.specs.Results.{InReach, take_judged, reply, list_after};
+ghost use Rattle.dictionary.specs.Stored.{Holds, slot_by};
+ghost use Rattle.dictionary.specs.Results.{take_judged, reply, list_after};
 
-use crate::places::place_of;
-use crate::reach::reached;
+use crate::addressing::Addressing;
+use crate::reached::Reached;
+use crate::run::Run;
 use model::refusal::Refusal;
 use model::run_refusal::RunRefusal;
 use permutation::Permutation;
 use table::refusal::TableRefusal;
-use table::shape::Shape;
 use table::table::Table;
 
-/// Takes the n key numbers from m on under a value number, all of them or none.
-pub fn take_run<P: Permutation, T: Table>(
-    permutation: &P,
-    table: &mut T,
-    shape: Shape,
-    m: u64,
-    n: u64,
-    w: u64,
-) -> Result<(), RunRefusal>
-    ensures value { (l : Entries) → Stores T.Table (mixing P.Permutation permutation.now) table.old shape.k shape.v shape.b l
-        → result ≡ reply (take_judged (slot_of (P.Permutation.forth permutation.now) shape.k shape.b) T.Table.group T.Table.limit shape.k shape.v l m n w) }
-    ensures after { (l : Entries) → Stores T.Table (mixing P.Permutation permutation.now) table.old shape.k shape.v shape.b l
-        → Stores T.Table (mixing P.Permutation permutation.now) table.new shape.k shape.v shape.b (list_after l (l ++ run_of m w n)
-        (take_judged (slot_of (P.Permutation.forth permutation.now) shape.k shape.b) T.Table.group T.Table.limit shape.k shape.v l m n w)) }
-    ensures kept { (l : Entries) → Stores T.Table (mixing P.Permutation permutation.now) table.old shape.k shape.v shape.b l
-        → (e : Refused) → result ≡ Err e → table.new ≡ table.old }
-    ensures len { length (T.Table.words table.new) ≡ length (T.Table.words table.old) }
-    ensures fits { T.Table.fits table.new ≡ T.Table.fits table.old }
-{
-    let count = reached(shape, m, n, w);
-    if let Some(refusal) = judge_run(permutation, table, shape, m, count, w) {
-        return Err(refusal);
+impl<'a, P: Permutation> Addressing<'a, P> {
+    /// Takes the keys of a run under its value, all of them or none.
+    pub fn take_run<T: Table>(&self, table: &mut T, run: Run) -> Result<(), RunRefusal>
+        ensures value { (l : Entries) → Holds P.Permutation T.Table self.now table.old l
+            → result ≡ reply (take_judged (slot_by P.Permutation self.now) T.Table.group T.Table.limit self.now.shape.k self.now.shape.v l run.first run.length run.value) }
+        ensures after { (l : Entries) → Holds P.Permutation T.Table self.now table.old l
+            → Holds P.Permutation T.Table self.now table.new (list_after l (l ++ run_of run.first run.value run.length)
+            (take_judged (slot_by P.Permutation self.now) T.Table.group T.Table.limit self.now.shape.k self.now.shape.v l run.first run.length run.value)) }
+        ensures kept { (l : Entries) → Holds P.Permutation T.Table self.now table.old l → (e : Refused) → result ≡ Err e → table.new ≡ table.old }
+        ensures len { length (T.Table.words table.new) ≡ length (T.Table.words table.old) }
+        ensures fits { T.Table.fits table.new ≡ T.Table.fits table.old }
+    {
+        let reached = self.reached(run);
+        reached.may_take(table)?;
+        reached.covers(run.length)?;
+        reached.take(table)
     }
-    if count < n {
-        return Err(Refusal::Table(TableRefusal::OutOfRange).at(count));
+
+    // One key number into the table.
+    pub(crate) fn add_key<T: Table>(
+        &self,
+        table: &mut T,
+        m: u64,
+        w: u64,
+    ) -> Result<(), TableRefusal>
+        ensures value { (l : Entries) → Holds P.Permutation T.Table self.now table.old l → m < 2 ^ self.now.shape.k → w < 2 ^ self.now.shape.v
+            → take_one (slot_by P.Permutation self.now) T.Table.group T.Table.limit l m (value_in l m) ≡ None → result ≡ Ok tt }
+        ensures after { (l : Entries) → Holds P.Permutation T.Table self.now table.old l → m < 2 ^ self.now.shape.k → w < 2 ^ self.now.shape.v
+            → take_one (slot_by P.Permutation self.now) T.Table.group T.Table.limit l m (value_in l m) ≡ None
+            → Holds P.Permutation T.Table self.now table.new (l ++ run_of m w 1) }
+        ensures len { length (T.Table.words table.new) ≡ length (T.Table.words table.old) }
+        ensures fits { T.Table.fits table.new ≡ T.Table.fits table.old }
+    {
+        let place = self.place(m);
+        table.add(place.slot, place.quotient, w)
     }
-    add_run(permutation, table, shape, m, count, w)
 }
 
-// How many of the i key numbers from m on have their slot in the group of `slot`, in groups of `size` slots.
-fn earlier<P: Permutation>(
-    permutation: &P,
-    shape: Shape,
-    size: u64,
-    m: u64,
-    i: u64,
-    slot: u64,
-) -> u64
-    requires { (i ≤ 2 ^ 32 - m) × (0 < size) }
-    ensures { (w : ℕ) → result ≡ group_load (slot_of (P.Permutation.forth permutation.now) shape.k shape.b) size (run_of m w i) (slot / size) }
-{
-    let mut count: u64 = 0;
-    for j in 0..i {
-        let place = place_of(shape.k - shape.b, permutation.forth(m + j));
-        if place.slot / size == slot / size {
-            count += 1;
+impl<'a, P: Permutation> Reached<'a, P> {
+    // How many of the first i keys have their slot in the group of `slot`, in groups of `size` slots.
+    fn earlier(&self, size: u64, i: u64, slot: u64) -> u64
+        requires { (i ≤ self.now.run.length) × (0 < size) }
+        ensures { result ≡ group_load (slot_by P.Permutation self.now.by) size (run_of self.now.run.first self.now.run.value i) (slot / size) }
+    {
+        let group = slot / size;
+        (0..i)
+            .filter(|j| self.by.place(self.run.first + *j).slot / size == group)
+            .count() as u64
+    }
+
+    // What stands against key i, after those before it, none of which the table holds yet.
+    fn may_take_at<T: Table>(&self, table: &T, i: u64) -> Result<(), Refusal>
+        requires { i < self.now.run.length }
+        ensures { (l : Entries) → Holds P.Permutation T.Table self.now.by table.now l
+            → result ≡ reply (take_one (slot_by P.Permutation self.now.by) T.Table.group T.Table.limit (l ++ run_of self.now.run.first self.now.run.value i)
+            (self.now.run.first + i) (value_in (l ++ run_of self.now.run.first self.now.run.value i) (self.now.run.first + i))) }
+    {
+        let place = self.by.place(self.run.first + i);
+        let earlier = self.earlier(table.group(), i, place.slot);
+        table.admits(place.slot, place.quotient, self.run.value, earlier)?;
+        Ok(())
+    }
+
+    // What stands against the run, at the first of its keys that is refused.
+    fn may_take<T: Table>(&self, table: &T) -> Result<(), RunRefusal>
+        ensures { (l : Entries) → Holds P.Permutation T.Table self.now.by table.now l
+            → result ≡ reply (take_refusal (slot_by P.Permutation self.now.by) T.Table.group T.Table.limit l self.now.run.first self.now.run.value 0 self.now.run.length) }
+    {
+        for i in 0..self.run.length {
+            self.may_take_at(table, i).map_err(|why| why.at(i))?;
         }
+        Ok(())
     }
-    count
-}
 
-// What stands against the i-th key number from m on, after those before it, none of which the table holds yet.
-fn judge<P: Permutation, T: Table>(
-    permutation: &P,
-    table: &T,
-    shape: Shape,
-    m: u64,
-    i: u64,
-    w: u64,
-) -> Option<Refusal>
-    requires { i < 2 ^ 32 - m }
-    ensures { (l : Entries) → Stores T.Table (mixing P.Permutation permutation.now) table.now shape.k shape.v shape.b l
-        → m + i < 2 ^ shape.k → w < 2 ^ shape.v
-        → result ≡ take_one (slot_of (P.Permutation.forth permutation.now) shape.k shape.b) T.Table.group T.Table.limit (l ++ run_of m w i) (m + i) (value_in (l ++ run_of m w i) (m + i)) }
-{
-    let place = place_of(shape.k - shape.b, permutation.forth(m + i));
-    let count = earlier(permutation, shape, table.group(), m, i, place.slot);
-    if let Err(e) = table.admits(place.slot, place.quotient, w, count) {
-        return Some(Refusal::Table(e));
-    }
-    None
-}
-
-// What stands against the n key numbers from m on, at the first of them that is refused.
-fn judge_run<P: Permutation, T: Table>(
-    permutation: &P,
-    table: &T,
-    shape: Shape,
-    m: u64,
-    n: u64,
-    w: u64,
-) -> Option<RunRefusal>
-    requires { n ≤ 2 ^ 32 - m }
-    ensures { (l : Entries) → Stores T.Table (mixing P.Permutation permutation.now) table.now shape.k shape.v shape.b l
-        → InReach shape.k shape.v m n w
-        → result ≡ take_refusal (slot_of (P.Permutation.forth permutation.now) shape.k shape.b) T.Table.group T.Table.limit l m w 0 n }
-{
-    for i in 0..n {
-        if let Some(why) = judge(permutation, table, shape, m, i, w) {
-            return Some(why.at(i));
+    // The keys into the table, after `may_take` has found nothing against them.
+    fn take<T: Table>(&self, table: &mut T) -> Result<(), RunRefusal>
+        ensures value { (l : Entries) → Holds P.Permutation T.Table self.now.by table.old l
+            → take_refusal (slot_by P.Permutation self.now.by) T.Table.group T.Table.limit l self.now.run.first self.now.run.value 0 self.now.run.length ≡ None → result ≡ Ok tt }
+        ensures after { (l : Entries) → Holds P.Permutation T.Table self.now.by table.old l
+            → take_refusal (slot_by P.Permutation self.now.by) T.Table.group T.Table.limit l self.now.run.first self.now.run.value 0 self.now.run.length ≡ None
+            → Holds P.Permutation T.Table self.now.by table.new (l ++ run_of self.now.run.first self.now.run.value self.now.run.length) }
+        ensures len { length (T.Table.words table.new) ≡ length (T.Table.words table.old) }
+        ensures fits { T.Table.fits table.new ≡ T.Table.fits table.old }
+    {
+        for i in 0..self.run.length {
+            self.by
+                .add_key(table, self.run.first + i, self.run.value)
+                .map_err(|_| Refusal::Unreached.at(i))?;
         }
+        Ok(())
     }
-    None
-}
-
-// One key number into the table.
-fn add_key<P: Permutation, T: Table>(
-    permutation: &P,
-    table: &mut T,
-    shape: Shape,
-    m: u64,
-    w: u64,
-) -> Result<(), TableRefusal>
-    ensures value { (l : Entries) → Stores T.Table (mixing P.Permutation permutation.now) table.old shape.k shape.v shape.b l
-        → m < 2 ^ shape.k → w < 2 ^ shape.v
-        → take_one (slot_of (P.Permutation.forth permutation.now) shape.k shape.b) T.Table.group T.Table.limit l m (value_in l m) ≡ None → result ≡ Ok tt }
-    ensures after { (l : Entries) → Stores T.Table (mixing P.Permutation permutation.now) table.old shape.k shape.v shape.b l
-        → m < 2 ^ shape.k → w < 2 ^ shape.v
-        → take_one (slot_of (P.Permutation.forth permutation.now) shape.k shape.b) T.Table.group T.Table.limit l m (value_in l m) ≡ None
-        → Stores T.Table (mixing P.Permutation permutation.now) table.new shape.k shape.v shape.b (l ++ run_of m w 1) }
-    ensures len { length (T.Table.words table.new) ≡ length (T.Table.words table.old) }
-    ensures fits { T.Table.fits table.new ≡ T.Table.fits table.old }
-{
-    let place = place_of(shape.k - shape.b, permutation.forth(m));
-    table.add(place.slot, place.quotient, w)
-}
-
-// The n key numbers from m on into the table, after `judge_run` has found nothing against them.
-fn add_run<P: Permutation, T: Table>(
-    permutation: &P,
-    table: &mut T,
-    shape: Shape,
-    m: u64,
-    n: u64,
-    w: u64,
-) -> Result<(), RunRefusal>
-    requires { n ≤ 2 ^ 32 - m }
-    ensures value { (l : Entries) → Stores T.Table (mixing P.Permutation permutation.now) table.old shape.k shape.v shape.b l
-        → InReach shape.k shape.v m n w
-        → take_refusal (slot_of (P.Permutation.forth permutation.now) shape.k shape.b) T.Table.group T.Table.limit l m w 0 n ≡ None → result ≡ Ok tt }
-    ensures after { (l : Entries) → Stores T.Table (mixing P.Permutation permutation.now) table.old shape.k shape.v shape.b l
-        → InReach shape.k shape.v m n w
-        → take_refusal (slot_of (P.Permutation.forth permutation.now) shape.k shape.b) T.Table.group T.Table.limit l m w 0 n ≡ None
-        → Stores T.Table (mixing P.Permutation permutation.now) table.new shape.k shape.v shape.b (l ++ run_of m w n) }
-    ensures len { length (T.Table.words table.new) ≡ length (T.Table.words table.old) }
-    ensures fits { T.Table.fits table.new ≡ T.Table.fits table.old }
-{
-    for i in 0..n {
-        if let Err(_) = add_key(permutation, table, shape, m + i, w) {
-            return Err(Refusal::Unreached.at(i));
-        }
-    }
-    Ok(())
 }

@@ -5,10 +5,10 @@ use arrivals::findings::{Findings, Totals};
 use arrivals::lines::read_stay;
 use arrivals::mix::mix;
 use arrivals::outcome::Outcome;
-use arrivals::place::{Place, place_in};
 use arrivals::stay::Stay;
 use permutation::Permutation;
 use std::io;
+use table::place::Place;
 use table::shape::Shape;
 use table::table::Table;
 
@@ -31,7 +31,7 @@ fn report_place<P: Permutation>(
     key: u64,
 ) -> io::Result<Place> {
     let mixed = mix(permutation, key);
-    let place = place_in(shape, mixed.scrambled);
+    let place = shape.place(mixed.scrambled);
     println!(rt;
         "    scrambled {}, which goes back to {}",
         mixed.scrambled, mixed.back

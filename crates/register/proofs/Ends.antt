@@ -22,7 +22,7 @@ use Rattle.dictionary.specs.Results.{moved, reply}
 use Rattle.register.specs.declared.side.Side as sides
 use Rattle.register.specs.declared.side.Side.TheVariants.{First, Second}
 use Rattle.register.specs.declared.in_use.InUse.{InUse}
-use Rattle.register.specs.declared.run_numbers.RunNumbers.{RunNumbers}
+use Rattle.dictionary.specs.declared.run.Run.{Run}
 use Rattle.register.specs.declared.state.Register.{Register}
 use Rattle.register.specs.Fixed.{fixed}
 use Rattle.register.specs.Stands.{Stands, side_of}
@@ -62,8 +62,12 @@ passed_on {X} {E} x e h =
 pub run_most : (n : ℕ) → true ≡ run_length n → n ≤ 64
 run_most n h = leb-true n 64 (and_parts (leb 1 n) (leb n 64) (sym h)).1
 
+-- what follows at one number follows at an equal one
+pub carried : (Q R : ℕ → Type 0) {a b : ℕ} → a ≡ b → (Q a → R a) → Q b → R b
+carried Q R e h q = subst R e (h (subst Q (sym e) q))
+
 -- what was read of a run that is good
-pub read_ok : {K V : Type 0} (f : Fixed K V) (key : K) (n : ℕ) (value : V) (x : Result RunNumbers RunRefusal) (run : RunNumbers) → Reads f key n value x → x ≡ Ok run → Good f key n value run
+pub read_ok : {K V : Type 0} (f : Fixed K V) (key : K) (n : ℕ) (value : V) (x : Result Run RunRefusal) (run : Run) → Reads f key n value x → x ≡ Ok run → Good f key n value run
 read_ok f key n value x run reads is = subst (λ y. Reads f key n value y) is reads
 
 -- a number of at most 32 bits
@@ -72,24 +76,24 @@ below_word m k h narrow = let word : 2 ^ k ≤ 2 ^ 32 = pow_mono narrow in omega
 
 module _ {K V : Type 0} (f : Fixed K V) where
   -- a run whose numbers are good comes to the machine
-  pub read_good : (make : (m n w : ℕ) → Asked) (key : K) (n : ℕ) (value : V) (run : RunNumbers) → Good f key n value run
-      → read_run f make (f.keys.number key) n (f.values.number value) (run_length n) ≡ make run.m n run.w
+  pub read_good : (make : (m n w : ℕ) → Asked) (key : K) (n : ℕ) (value : V) (run : Run) → Good f key n value run
+      → read_run f make (f.keys.number key) n (f.values.number value) (run_length n) ≡ make run.first n run.value
   read_good make key n value run good =
       ap (read_run f make (f.keys.number key) n (f.values.number value)) good.length ∙ ap (read_key f make n (f.values.number value)) good.key_number
-      ∙ ap (read_keys make run.m n (f.values.number value)) good.all_keys ∙ ap (read_value (make run.m n)) good.value_number
+      ∙ ap (read_keys make run.first n (f.values.number value)) good.all_keys ∙ ap (read_value (make run.first n)) good.value_number
 
   -- its keys are below 2^k
-  pub keys_end : Lawful f → (key : K) (n : ℕ) (value : V) (run : RunNumbers) → Good f key n value run → run.m + n ≤ 2 ^ f.keys.width
+  pub keys_end : Lawful f → (key : K) (n : ℕ) (value : V) (run : Run) → Good f key n value run → run.first + n ≤ 2 ^ f.keys.width
   keys_end law key n value run good =
-      let lt = law.keys.below key run.m good.key_number in
-      let le : run.m ≤ 2 ^ f.keys.width = omega arith in
-      keys_fit f law run.m 0 n good.all_keys le
+      let lt = law.keys.below key run.first good.key_number in
+      let le : run.first ≤ 2 ^ f.keys.width = omega arith in
+      keys_fit f law run.first 0 n good.all_keys le
 
   -- and so it is in reach
-  pub reached : Lawful f → (key : K) (n : ℕ) (value : V) (run : RunNumbers) → Good f key n value run → Reached f run.m n run.w
+  pub reached : Lawful f → (key : K) (n : ℕ) (value : V) (run : Run) → Good f key n value run → Reached f run.first n run.value
   reached law key n value run good =
       let end = keys_end law key n value run good in
-      record { keys = λ i less. (omega arith, law.values.below value run.w good.value_number); value = (value, good.value_number) }
+      record { keys = λ i less. (omega arith, law.values.below value run.value good.value_number); value = (value, good.value_number) }
 
   -- an enlargement that is refused
   pub move_stops : (t : State) (e : Refusal) (a : Bool) → (h : Bool) → room_judged f t ≡ h → Err e ≡ moved a h → ◌≡◌ {A = Model × Reply} (enlarge_fit f t a) (opened t, declined e)

@@ -6,6 +6,7 @@ use Rattle.table.specs.declared.table.Table as table
 use Rattle.table.specs.Meaning.{Fit}
 use Rattle.model.specs.Laws.{Lawful, LawfulCoding, LawfulMixing, LawfulKind}
 use Rattle.dictionary.specs.Stored.{mixing}
+use Rattle.register.specs.declared.parts.Parts.{Parts}
 use Rattle.register.specs.Fixed.{coding_of, kind_of, fixed_of}
 
 -- every coding of a type
@@ -38,11 +39,11 @@ pub lawful : {K T V U P A B : Type 0} (kc : coding.Ghosts K T) (vc : coding.Ghos
     → ((s : P) → LawfulMixing (mixing pm s))
     → ((t : A) → LawfulKind (kind_of ta t))
     → ((t : B) → LawfulKind (kind_of tb t))
-    → (keys : K) (values : V) (perm : P) (first : A) (second : B) → Lawful (fixed_of kc vc pm ta tb keys values perm first second)
-lawful kc vc pm ta tb ck cv cp ca cb keys values perm first second = record {
-  keys = ck keys;
-  values = cv values;
-  mix = cp perm;
-  first = ca first;
-  second = cb second;
+    → (p : Parts K V P A B) → Lawful (fixed_of kc vc pm ta tb p)
+lawful kc vc pm ta tb ck cv cp ca cb p = record {
+  keys = ck p.keys;
+  values = cv p.values;
+  mix = cp p.permutation;
+  first = ca p.first;
+  second = cb p.second;
 }

@@ -8,6 +8,7 @@ use Rattle.model.specs.declared.call.Call.{Call}
 use Rattle.model.specs.declared.answer.Answer.{Answer}
 use Rattle.model.specs.Model.{Fixed}
 use Rattle.model.specs.Laws.{SameCodings}
+use Rattle.register.specs.declared.parts.Parts.{Parts}
 use Rattle.register.specs.declared.state.Register.{Register}
 use Rattle.register.specs.Fixed.{fixed}
 use Rattle.register.specs.Stands.{Same, MadeOf}
@@ -23,9 +24,8 @@ part_number calls n a m h k e = let t = length-take-le n calls h in omega arith
 
 module _ {K T V U P A B : Type 0} (kc : coding.Ghosts K T) (vc : coding.Ghosts V U) (pm : permutation.Ghosts P) (ta : table.Ghosts A) (tb : table.Ghosts B) where
   -- a register that is the same as one of five parts is made of them
-  pub still_made : (r s : Register K V P A B T U) (keys : K) (values : V) (perm : P) (first : A) (second : B)
-      → MadeOf kc vc pm ta tb r keys values perm first second → Same kc vc pm ta tb r s → MadeOf kc vc pm ta tb s keys values perm first second
-  still_made r s keys values perm first second made same = record {
+  pub still_made : (r s : Register K V P A B T U) (p : Parts K V P A B) → MadeOf kc vc pm ta tb r p → Same kc vc pm ta tb r s → MadeOf kc vc pm ta tb s p
+  still_made r s p made same = record {
     parts = same.parts ∙ made.parts;
     first_words = same.first_words ∙ made.first_words;
     second_words = same.second_words ∙ made.second_words;

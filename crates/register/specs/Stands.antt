@@ -16,6 +16,7 @@ use Rattle.model.specs.Model.{Fixed, Side, on_first, on_second, State, Model, cl
 use Rattle.model.specs.Laws.{Apart}
 use Rattle.register.specs.declared.side.Side as sides
 use Rattle.register.specs.declared.side.Side.TheVariants.{First, Second}
+use Rattle.register.specs.declared.parts.Parts.{Parts}
 use Rattle.register.specs.declared.state.Opened.{Opened}
 use Rattle.register.specs.declared.state.Register.{Register}
 use Rattle.register.specs.Fixed.{fixed, fixed_of}
@@ -54,6 +55,7 @@ Listed f closed = Unit {0}
 Listed f (opened t) = Entered f t
 
 module _ {K T V U P A B : Type 0} (kc : coding.Ghosts K T) (vc : coding.Ghosts V U) (pm : permutation.Ghosts P) (ta : table.Ghosts A) (tb : table.Ghosts B) where
+  -- A relation: the machine has the order of arrival over all slots, which no table keeps, so no function takes a register to its machine.
   -- a register stands for a machine: open alike, as many entries, each table means what the machine says, and the list is in order
   pub record Stands (r : Register K V P A B T U) (m : Model) : Type 0 where
     pub uses : Uses r.opened m
@@ -63,10 +65,10 @@ module _ {K T V U P A B : Type 0} (kc : coding.Ghosts K T) (vc : coding.Ghosts V
     pub listed : Listed (fixed kc vc pm ta tb r) m
 
   -- a register of five parts
-  pub record MadeOf (r : Register K V P A B T U) (keys : K) (values : V) (permutation : P) (first : A) (second : B) : Type 0 where
-    pub parts : fixed kc vc pm ta tb r ≡ fixed_of kc vc pm ta tb keys values permutation first second
-    pub first_words : length (ta.words r.first) ≡ length (ta.words first)
-    pub second_words : length (tb.words r.second) ≡ length (tb.words second)
+  pub record MadeOf (r : Register K V P A B T U) (p : Parts K V P A B) : Type 0 where
+    pub parts : fixed kc vc pm ta tb r ≡ fixed_of kc vc pm ta tb p
+    pub first_words : length (ta.words r.first) ≡ length (ta.words p.first)
+    pub second_words : length (tb.words r.second) ≡ length (tb.words p.second)
 
   -- two states of one register
   pub record Same (r s : Register K V P A B T U) : Type 0 where

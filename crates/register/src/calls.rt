@@ -18,7 +18,7 @@ impl<K: Coding, V: Coding, P: Permutation, A: Table, B: Table> Register<K, V, P,
         ensures same { Same K.Coding V.Coding P.Permutation A.Table B.Table self.old self.new }
         ensures step { Steps K.Coding V.Coding P.Permutation A.Table B.Table self.old self.new (Open b) (number_answer result) }
     {
-        if let Some(_) = self.opened {
+        if self.opened.is_some() {
             return Err(Refusal::AlreadyOpen);
         }
         if !self.widths_agree() {
@@ -59,10 +59,7 @@ impl<K: Coding, V: Coding, P: Permutation, A: Table, B: Table> Register<K, V, P,
         ensures step { Steps K.Coding V.Coding P.Permutation A.Table B.Table self.now self.now (At i) (entry_answer result) }
     {
         let used = self.in_use()?;
-        let Some(entry) = self.entry_number(used, i) else {
-            return Err(Refusal::NoSuchPlace);
-        };
-        Ok(entry)
+        self.entry_number(used, i).ok_or(Refusal::NoSuchPlace)
     }
 
     /// Moves all entries into the other table, with twice the slots. Answers the new b.

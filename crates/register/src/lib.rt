@@ -6,15 +6,16 @@ mod assemble;
 mod calls;
 mod cancel;
 mod in_use;
+mod parts;
 mod put;
 mod reading;
 mod replays;
-mod run_numbers;
 mod side;
 mod sides;
 mod state;
 mod take;
 
+pub use parts::Parts;
 pub use replays::{replay, replay_both};
 pub use side::Side;
 pub use state::Register;

@@ -12,6 +12,8 @@ use model::run_refusal::RunRefusal;
 use permutation::Permutation;
 use table::table::Table;
 
+// A match in each of these four: `map_or_else` is not covered where a function that it is passed gives a type that its arguments do not name.
+
 // The answer of an open or an enlarge.
 fn numbered<V>(r: Result<u32, Refusal>) -> Answer<V>
     ensures { result ≡ number_answer r }

@@ -3,9 +3,9 @@ ghost use Rattle.model.specs.Step.{run_length, no_key};
 ghost use Rattle.register.specs.Fixed.{fixed};
 ghost use Rattle.register.specs.Reading.{Reads};
 
-use crate::run_numbers::RunNumbers;
 use crate::state::Register;
 use coding::Coding;
+use dictionary::Run;
 use model::refusal::Refusal;
 use model::run_refusal::RunRefusal;
 use permutation::Permutation;
@@ -30,12 +30,7 @@ impl<K: Coding, V: Coding, P: Permutation, A: Table, B: Table> Register<K, V, P,
     }
 
     // The numbers of a run of n keys under a value, or why it is refused on sight.
-    pub(crate) fn read_run(
-        &self,
-        key: K::Item,
-        n: u64,
-        value: V::Item,
-    ) -> Result<RunNumbers, RunRefusal>
+    pub(crate) fn read_run(&self, key: K::Item, n: u64, value: V::Item) -> Result<Run, RunRefusal>
         ensures { Reads (fixed K.Coding V.Coding P.Permutation A.Table B.Table self.now) key n value result }
     {
         if !is_run_length(n) {
@@ -50,7 +45,11 @@ impl<K: Coding, V: Coding, P: Permutation, A: Table, B: Table> Register<K, V, P,
         let Some(w) = self.values.number(value) else {
             return Err(Refusal::UnknownValue.at(0));
         };
-        Ok(RunNumbers { m, w })
+        Ok(Run {
+            first: m,
+            length: n,
+            value: w,
+        })
     }
 
     // The first place of the n numbers from m on whose number is no key's.
@@ -58,11 +57,6 @@ impl<K: Coding, V: Coding, P: Permutation, A: Table, B: Table> Register<K, V, P,
         requires { (m < 2 ^ 32) × (n ≤ 64) }
         ensures { result ≡ no_key (fixed K.Coding V.Coding P.Permutation A.Table B.Table self.now) m 0 n }
     {
-        for i in 0..n {
-            if let None = self.keys.item(m + i) {
-                return Some(i);
-            }
-        }
-        None
+        (0..n).find(|i| self.keys.item(m + *i).is_none())
     }
 }

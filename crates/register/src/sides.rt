@@ -9,11 +9,10 @@ ghost use Rattle.register.specs.Stands.{Stands, Same};
 ghost use Rattle.register.specs.Numbers.{other_side, Chosen, Finds, Reached, RunEnds, MoveEnds};
 
 use crate::in_use::InUse;
-use crate::run_numbers::RunNumbers;
 use crate::side::Side;
 use crate::state::Register;
 use coding::Coding;
-use dictionary::{cancel_run, entry_at, look_up, redistribute, take_run};
+use dictionary::{Addressing, Run, redistribute};
 use model::refusal::Refusal;
 use model::run_refusal::RunRefusal;
 use permutation::Permutation;
@@ -34,17 +33,17 @@ impl Side {
 }
 
 impl<K: Coding, V: Coding, P: Permutation, A: Table, B: Table> Register<K, V, P, A, B> {
+    // A match on the side in each of these: the tables have two types, and a closure cannot be generic over which it is given.
+
     // The table in use, and its widths.
     pub(crate) fn in_use(&self) -> Result<InUse, Refusal>
         ensures { (m : Model) → Stands K.Coding V.Coding P.Permutation A.Table B.Table self.now m
             → Finds K.Coding V.Coding P.Permutation A.Table B.Table self.now m result }
     {
-        let Some(opened) = self.opened else {
-            return Err(Refusal::Closed);
-        };
-        let Some(shape) = Shape::new(self.keys.width(), self.values.width(), opened.b) else {
-            return Err(Refusal::Unreached);
-        };
+        let opened = self.opened.ok_or(Refusal::Closed)?;
+        let shape = Shape::new(self.keys.width(), self.values.width(), opened.b).ok_or(
+            Refusal::Unreached,
+        )?;
         Ok(InUse {
             side: opened.side,
             shape,
@@ -57,9 +56,13 @@ impl<K: Coding, V: Coding, P: Permutation, A: Table, B: Table> Register<K, V, P,
             → Chosen K.Coding V.Coding P.Permutation A.Table B.Table self.now t used
             → m < 2 ^ (K.Coding.width self.now.keys) → result ≡ answer_of (value_in t.list m) }
     {
+        let by = Addressing {
+            permutation: &self.permutation,
+            shape: used.shape,
+        };
         match used.side {
-            Side::First => look_up(&self.permutation, &self.first, used.shape, m),
-            Side::Second => look_up(&self.permutation, &self.second, used.shape, m),
+            Side::First => by.look_up(&self.first, m),
+            Side::Second => by.look_up(&self.second, m),
         }
     }
 
@@ -69,77 +72,51 @@ impl<K: Coding, V: Coding, P: Permutation, A: Table, B: Table> Register<K, V, P,
             → Chosen K.Coding V.Coding P.Permutation A.Table B.Table self.now t used
             → result ≡ listed_at (slot_of (fixed K.Coding V.Coding P.Permutation A.Table B.Table self.now) t.b) t.b t.list i }
     {
+        let by = Addressing {
+            permutation: &self.permutation,
+            shape: used.shape,
+        };
         match used.side {
-            Side::First => entry_at(&self.permutation, &self.first, used.shape, i),
-            Side::Second => entry_at(&self.permutation, &self.second, used.shape, i),
+            Side::First => by.entry_at(&self.first, i),
+            Side::Second => by.entry_at(&self.second, i),
         }
     }
 
-    // The n key numbers from m on into the table in use, all of them or none.
-    pub(crate) fn take_numbers(
-        &mut self,
-        used: InUse,
-        run: RunNumbers,
-        n: u64,
-    ) -> Result<(), RunRefusal>
+    // The key numbers of a run into the table in use, all of them or none.
+    pub(crate) fn take_numbers(&mut self, used: InUse, run: Run) -> Result<(), RunRefusal>
         ensures same { Same K.Coding V.Coding P.Permutation A.Table B.Table self.old self.new }
         ensures ends { (t : State) → Stands K.Coding V.Coding P.Permutation A.Table B.Table self.old (open_as t)
             → Chosen K.Coding V.Coding P.Permutation A.Table B.Table self.old t used
-            → Reached (fixed K.Coding V.Coding P.Permutation A.Table B.Table self.old) run.m n run.w
-            → RunEnds K.Coding V.Coding P.Permutation A.Table B.Table self.old self.new t (t.list ++ run_of run.m run.w n)
-            (take_judged (fixed K.Coding V.Coding P.Permutation A.Table B.Table self.old) t run.m n run.w) result }
+            → Reached (fixed K.Coding V.Coding P.Permutation A.Table B.Table self.old) run.first run.length run.value
+            → RunEnds K.Coding V.Coding P.Permutation A.Table B.Table self.old self.new t (t.list ++ run_of run.first run.value run.length)
+            (take_judged (fixed K.Coding V.Coding P.Permutation A.Table B.Table self.old) t run.first run.length run.value) result }
     {
+        let by = Addressing {
+            permutation: &self.permutation,
+            shape: used.shape,
+        };
         match used.side {
-            Side::First => take_run(
-                &self.permutation,
-                &mut self.first,
-                used.shape,
-                run.m,
-                n,
-                run.w,
-            ),
-            Side::Second => take_run(
-                &self.permutation,
-                &mut self.second,
-                used.shape,
-                run.m,
-                n,
-                run.w,
-            ),
+            Side::First => by.take_run(&mut self.first, run),
+            Side::Second => by.take_run(&mut self.second, run),
         }
     }
 
-    // The n key numbers from m on out of the table in use, all of them or none.
-    pub(crate) fn cancel_numbers(
-        &mut self,
-        used: InUse,
-        run: RunNumbers,
-        n: u64,
-    ) -> Result<(), RunRefusal>
+    // The key numbers of a run out of the table in use, all of them or none.
+    pub(crate) fn cancel_numbers(&mut self, used: InUse, run: Run) -> Result<(), RunRefusal>
         ensures same { Same K.Coding V.Coding P.Permutation A.Table B.Table self.old self.new }
         ensures ends { (t : State) → Stands K.Coding V.Coding P.Permutation A.Table B.Table self.old (open_as t)
             → Chosen K.Coding V.Coding P.Permutation A.Table B.Table self.old t used
-            → Reached (fixed K.Coding V.Coding P.Permutation A.Table B.Table self.old) run.m n run.w
-            → RunEnds K.Coding V.Coding P.Permutation A.Table B.Table self.old self.new t (without_run run.m n t.list)
-            (cancel_refusal t.list run.m run.w 0 n) result }
+            → Reached (fixed K.Coding V.Coding P.Permutation A.Table B.Table self.old) run.first run.length run.value
+            → RunEnds K.Coding V.Coding P.Permutation A.Table B.Table self.old self.new t (without_run run.first run.length t.list)
+            (cancel_refusal t.list run.first run.value 0 run.length) result }
     {
+        let by = Addressing {
+            permutation: &self.permutation,
+            shape: used.shape,
+        };
         match used.side {
-            Side::First => cancel_run(
-                &self.permutation,
-                &mut self.first,
-                used.shape,
-                run.m,
-                n,
-                run.w,
-            ),
-            Side::Second => cancel_run(
-                &self.permutation,
-                &mut self.second,
-                used.shape,
-                run.m,
-                n,
-                run.w,
-            ),
+            Side::First => by.cancel_run(&mut self.first, run),
+            Side::Second => by.cancel_run(&mut self.second, run),
         }
     }
 

@@ -15,12 +15,9 @@ impl<K: Coding, V: Coding, P: Permutation, A: Table, B: Table> Register<K, V, P,
         ensures same { Same K.Coding V.Coding P.Permutation A.Table B.Table self.old self.new }
         ensures step { Steps K.Coding V.Coding P.Permutation A.Table B.Table self.old self.new (Take key n value) (run_answer result) }
     {
-        let numbers = self.read_run(key, n, value)?;
-        let used = match self.in_use() {
-            Ok(used) => used,
-            Err(e) => return Err(e.at(0)),
-        };
-        self.take_numbers(used, numbers, n)?;
+        let run = self.read_run(key, n, value)?;
+        let used = self.in_use().map_err(|e| e.at(0))?;
+        self.take_numbers(used, run)?;
         self.count = self.count.saturating_add(n);
         Ok(n)
     }

@@ -1,5 +1,6 @@
 pub mod Refusals
 pub mod Slots
+pub mod Joined
 pub mod Meaning
 pub mod Places
 pub mod Widths

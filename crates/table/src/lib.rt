@@ -5,6 +5,7 @@
 
 pub mod check_refusal;
 pub mod numbers;
+pub mod place;
 pub mod ranges;
 pub mod refusal;
 pub mod shape;

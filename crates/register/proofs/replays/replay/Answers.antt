@@ -28,7 +28,7 @@ returns g c =
     record {
       number = c.min-number.ensures;
       parts = still_made g.K.Coding g.V.Coding g.P.Permutation g.A.Table g.B.Table c.assemble-register.result r
-          c.args.keys c.args.values c.args.permutation c.args.first c.args.second c.assemble-register.ensures.parts c.loop-i.invariant.same;
+          c.args.parts c.assemble-register.ensures.parts c.loop-i.invariant.same;
       promise = subst (λ j. Promise g.K.Coding g.V.Coding g.P.Permutation g.A.Table g.B.Table r (take j c.args.calls.now) (take j c.loop-i.answers)) e c.loop-i.invariant.promise;
       rest = subst (λ j. drop j c.loop-i.answers ≡ drop j c.args.answers.now) e c.loop-i.invariant.rest;
     }

@@ -25,8 +25,8 @@ returns g c =
       parts = (c.replay-register.ensures.parts, c.replay-another.ensures.parts);
       promise = (p, q);
       alike = both_agree g.K.Coding g.V.Coding g.P.Permutation g.A.Table g.B.Table g.L.Coding g.W.Coding g.Q.Permutation g.C.Table g.D.Table r s
-          (fixed_of g.K.Coding g.V.Coding g.P.Permutation g.A.Table g.B.Table one.0 one.1 one.2 one.3 one.4)
-          (fixed_of g.L.Coding g.W.Coding g.Q.Permutation g.C.Table g.D.Table other.0 other.1 other.2 other.3 other.4)
+          (fixed_of g.K.Coding g.V.Coding g.P.Permutation g.A.Table g.B.Table one)
+          (fixed_of g.L.Coding g.W.Coding g.Q.Permutation g.C.Table g.D.Table other)
           (take n calls) (take n answers) (take n others) c.replay-register.ensures.parts.parts c.replay-another.ensures.parts.parts p q;
       rest = (
         subst (λ j. drop j answers ≡ drop j c.args.answers.now) m c.replay-register.ensures.rest,

@@ -10,9 +10,9 @@ returns-in-First g c = record {
   ends = λ t st chosen reached.
       let r = c.args.self.now in
       let e = chose_first chosen c.in-First.is in
-      cancel_ends g.A.Table r (with_first r c.cancel_run.new.table) t c.args.used c.args.run.m c.args.n c.args.run.w c.cancel_run.result r.first c.cancel_run.new.table
+      cancel_ends g.A.Table r (with_first r c.cancel_run.new.table) t c.args.used c.args.run.first c.args.run.length c.args.run.value c.cancel_run.result r.first c.cancel_run.new.table
       chosen reached (first_stored st e) c.cancel_run.ensures.value c.cancel_run.ensures.after c.cancel_run.ensures.kept (ap (with_first r))
-      (first_relisted r t c.cancel_run.new.table (without_run c.args.run.m c.args.n t.list) st e) refl st.listed.known;
+      (first_relisted r t c.cancel_run.new.table (without_run c.args.run.first c.args.run.length t.list) st e) refl st.listed.known;
 }
 
 pub returns-in-Second : goal.returns-in-Second
@@ -21,7 +21,7 @@ returns-in-Second g c = record {
   ends = λ t st chosen reached.
       let r = c.args.self.now in
       let e = chose_second chosen c.in-Second.is in
-      cancel_ends g.B.Table r (with_second r c.cancel_run-in-Second.new.table) t c.args.used c.args.run.m c.args.n c.args.run.w c.cancel_run-in-Second.result r.second c.cancel_run-in-Second.new.table
+      cancel_ends g.B.Table r (with_second r c.cancel_run-in-Second.new.table) t c.args.used c.args.run.first c.args.run.length c.args.run.value c.cancel_run-in-Second.result r.second c.cancel_run-in-Second.new.table
       chosen reached (second_stored st e) c.cancel_run-in-Second.ensures.value c.cancel_run-in-Second.ensures.after c.cancel_run-in-Second.ensures.kept (ap (with_second r))
-      (second_relisted r t c.cancel_run-in-Second.new.table (without_run c.args.run.m c.args.n t.list) st e) refl st.listed.known;
+      (second_relisted r t c.cancel_run-in-Second.new.table (without_run c.args.run.first c.args.run.length t.list) st e) refl st.listed.known;
 }

@@ -4,6 +4,7 @@ use Rattle.model.specs.declared.call.Call.{Call}
 use Rattle.register.specs.declared.state.Register.{Register}
 use Rattle.register.specs.Stands.{Same}
 use Rattle.register.specs.Promise.{Steps, Continues}
+use Rattle.register.specs.Fixed.{parts_of}
 use Rattle.register.proofs.Lawful.{lawful_coding, lawful_mixing, lawful_kind, lawful}
 use Rattle.register.proofs.Putting.{put_ends, same_self}
 use Rattle.register.proofs.state.Register.put.Given as given
@@ -25,7 +26,7 @@ ends g r s {call} {done} {answer} {told} e d same steps =
     (lawful_mixing g.P.Permutation g.met.P.Permutation.within g.met.P.Permutation.returns)
     (lawful_kind g.A.Table g.met.A.Table.grouped g.met.A.Table.limited g.met.A.Table.fitting)
     (lawful_kind g.B.Table g.met.B.Table.grouped g.met.B.Table.limited g.met.B.Table.fitting)
-    s.keys s.values s.permutation s.first s.second)
+    (parts_of s))
     e d same steps
 
 pub returns-in-Open : goal.returns-in-Open

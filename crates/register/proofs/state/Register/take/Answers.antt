@@ -5,9 +5,11 @@ use Rattle.model.specs.Laws.{Lawful}
 use Rattle.model.specs.Model.{opened}
 use Rattle.model.specs.Step.{answer, take_judged, to_take}
 use Rattle.register.specs.declared.state.Register.{Register}
-use Rattle.register.specs.Fixed.{fixed}
+use Rattle.dictionary.proofs.Scans.{kept_ok}
+use Rattle.register.specs.Fixed.{fixed, parts_of}
+use Rattle.register.specs.Numbers.{Reached, RunEnds}
 use Rattle.register.proofs.OnSides.{same_but}
-use Rattle.register.proofs.Ends.{passed_on, reached, read_good, read_ok, run_done, run_refused}
+use Rattle.register.proofs.Ends.{carried, passed_on, reached, read_good, read_ok, run_done, run_refused}
 use Rattle.register.proofs.Lengths.{more_counted}
 use Rattle.register.proofs.Lawful.{lawful, lawful_coding, lawful_kind, lawful_mixing}
 use Rattle.register.proofs.state.Register.take.Given as given
@@ -23,21 +25,22 @@ law g r =
     (lawful_mixing g.P.Permutation g.met.P.Permutation.within g.met.P.Permutation.returns)
     (lawful_kind g.A.Table g.met.A.Table.grouped g.met.A.Table.limited g.met.A.Table.fitting)
     (lawful_kind g.B.Table g.met.B.Table.grouped g.met.B.Table.limited g.met.B.Table.fitting)
-    r.keys r.values r.permutation r.first r.second
+    (parts_of r)
 
 pub returns-in_err-take_numbers : goal.returns-in_err-take_numbers
 returns-in_err-take_numbers g c =
     let r = c.args.self.now in
     let f = fixed g.K.Coding g.V.Coding g.P.Permutation g.A.Table g.B.Table r in
     let n = c.args.n in
-    let run = c.in_ok-numbers.numbers in
-    let good = read_ok f c.args.key n c.args.value c.read_run.result run c.read_run.ensures c.in_ok-numbers.was in
+    let run = c.in_ok-run.run' in
+    let good = read_ok f c.args.key n c.args.value c.read_run.result run c.read_run.ensures c.in_ok-run.was in
     record {
       same = c.take_numbers.ensures.same;
-      step = run_refused r c.in_use.result c.in-Ok.used c.in-Ok.is c.in_use.ensures c.take_numbers.new.self (Take c.args.key n c.args.value) n c.take_numbers.result
-          (λ t. t.list ++ run_of run.m run.w n) (λ t. take_judged f t run.m n run.w)
+      step = run_refused r c.in_use.result c.in_ok-used.used (kept_ok _ c.in_use.result c.map_err.result c.in_ok-used.used c.in_ok-used.was c.map_err.ensures.cases) c.in_use.ensures c.take_numbers.new.self (Take c.args.key n c.args.value) n c.take_numbers.result
+          (λ t. t.list ++ run_of run.first run.value n) (λ t. take_judged f t run.first n run.value)
           (λ t. ap (answer f (opened t)) (read_good f to_take c.args.key n c.args.value run good))
-          (λ t st chosen. c.take_numbers.ensures.ends t st chosen (reached f (law g r) c.args.key n c.args.value run good))
+          (λ t st chosen. carried (λ y. Reached f run.first y run.value) (λ y. RunEnds g.K.Coding g.V.Coding g.P.Permutation g.A.Table g.B.Table r c.take_numbers.new.self t (t.list ++ run_of run.first run.value y) (take_judged f t run.first y run.value) c.take_numbers.result) good.whole
+          (c.take_numbers.ensures.ends t st chosen) (reached f (law g r) c.args.key n c.args.value run good))
           c.in_err-take_numbers.field-0.0 c.in_err-take_numbers.was c.from_residual-in_err-take_numbers.result
           (passed_on c.from_residual-in_err-take_numbers.result c.in_err-take_numbers.field-0.0 c.from_residual-in_err-take_numbers.ensures.1);
     }
@@ -47,15 +50,16 @@ returns g c =
     let r = c.args.self.now in
     let f = fixed g.K.Coding g.V.Coding g.P.Permutation g.A.Table g.B.Table r in
     let n = c.args.n in
-    let run = c.in_ok-numbers.numbers in
-    let good = read_ok f c.args.key n c.args.value c.read_run.result run c.read_run.ensures c.in_ok-numbers.was in
+    let run = c.in_ok-run.run' in
+    let good = read_ok f c.args.key n c.args.value c.read_run.result run c.read_run.ensures c.in_ok-run.was in
     record {
       same = same_but c.take_numbers.ensures.same c.take_numbers.new.self.opened c.saturating_add-self.result;
-      step = run_done r c.in_use.result c.in-Ok.used c.in-Ok.is c.in_use.ensures c.take_numbers.new.self (Take c.args.key n c.args.value) n c.take_numbers.result
-          (λ t. t.list ++ run_of run.m run.w n) (λ t. take_judged f t run.m n run.w)
+      step = run_done r c.in_use.result c.in_ok-used.used (kept_ok _ c.in_use.result c.map_err.result c.in_ok-used.used c.in_ok-used.was c.map_err.ensures.cases) c.in_use.ensures c.take_numbers.new.self (Take c.args.key n c.args.value) n c.take_numbers.result
+          (λ t. t.list ++ run_of run.first run.value n) (λ t. take_judged f t run.first n run.value)
           (λ t. ap (answer f (opened t)) (read_good f to_take c.args.key n c.args.value run good))
-          (λ t st chosen. c.take_numbers.ensures.ends t st chosen (reached f (law g r) c.args.key n c.args.value run good))
+          (λ t st chosen. carried (λ y. Reached f run.first y run.value) (λ y. RunEnds g.K.Coding g.V.Coding g.P.Permutation g.A.Table g.B.Table r c.take_numbers.new.self t (t.list ++ run_of run.first run.value y) (take_judged f t run.first y run.value) c.take_numbers.result) good.whole
+          (c.take_numbers.ensures.ends t st chosen) (reached f (law g r) c.args.key n c.args.value run good))
           c.saturating_add-self.result c.in_ok-take_numbers.was
-          (λ t st clear kept after. more_counted t.list run.m run.w n (g.K.Coding.width c.take_numbers.new.self.keys) c.take_numbers.new.self.count c.saturating_add-self.result (kept ∙ st.count) c.saturating_add-self.ensures
+          (λ t st clear kept after. more_counted t.list run.first run.value n (g.K.Coding.width c.take_numbers.new.self.keys) c.take_numbers.new.self.count c.saturating_add-self.result (kept ∙ st.count) c.saturating_add-self.ensures
           (g.met.K.Coding.narrow c.take_numbers.new.self.keys) after.listed.apart after.listed.below);
     }
