@@ -1,38 +1,27 @@
--- One byte more of a text that is read from the front.
-use Rattle.std.proofs.Common.{◌≡◌, ℕ, suc, ◌+◌, ◌-◌, ◌<◌, ◌≤◌, Bool, true, false, List, length, get_or, take, drop, Some, None, ◌∙◌, add-one, arith, drop_of_length-le, drop-cons}
-use native.Mathlib.Nat.{sub-zero}
+-- One byte, or one word, more of a text that is read from the front.
+use Rattle.std.proofs.Common.{◌≡◌, ℕ, suc, ◌+◌, ◌-◌, ◌<◌, ◌≤◌, Bool, true, false, cond, ltb, List, [], ◌∷◌, length, Some, None, Option, refl, sym, ap, subst, take, drop,  ◌∙◌, arith}
+use Rattle.std.specs.Prelude.{not, unwrap_or}
+use Rattle.std.proofs.lemmas.Iterator.{YieldsList}
 use Rattle.std.proofs.lemmas.List.{take_rest}
-use Rattle.arrivals.specs.Lines.{of_kind, run_length, skipped, word, after, nth_word, digit_after, decimal_from}
+use Rattle.std.specs.List.{position_or_len, FoldsTo}
+use Rattle.std.specs.Option.{MatchOption}
+use Rattle.std.specs.Iterator.{AlwaysYields, Yields, TryFoldTurn, TryFoldsItems}
+use Rattle.std.specs.Fn.{Called}
+use Rattle.std.specs.ControlFlow.{continue_value}
+use Rattle.std.proofs.lemmas.Bool.Decides.{nat_tests}
+use Rattle.std.proofs.lemmas.List.Sums.{prefix_len-le-length}
+use denote.Param.Members.{Mut}
+use Rattle.arrivals.specs.Lines.{is_blank, skipped, word, after, nth_word, digit_after, decimal_from}
 
--- a byte of the kind makes the run longer by one
-pub run_more : (k : Bool) (bs : List ℕ) (i : ℕ) → i < length bs → of_kind k (get_or bs i 0) ≡ true → run_length k (drop i bs) ≡ suc (run_length k (drop (i + 1) bs))
-unfolding run_length
-run_more k bs i h e = rw (add-one, drop-cons bs i 0, run_length, e)
+-- the place that `position` finds, or else the length
+pub place_or_end : (p : ℕ → Bool) (xs : List ℕ) (r : Option ℕ) → r ≡ cond (ltb (position_or_len p xs) (length xs)) (Some (position_or_len p xs)) None → unwrap_or r (length xs) ≡ position_or_len p xs
+place_or_end p xs r e =
+    let h : position_or_len p xs ≤ length xs = prefix_len-le-length _ xs in
+    rw e (grind (arith, nat_tests))
 
--- a byte of the other kind ends it
-pub run_ends : (k : Bool) (bs : List ℕ) (i : ℕ) → i < length bs → of_kind k (get_or bs i 0) ≡ false → run_length k (drop i bs) ≡ 0
-unfolding run_length
-run_ends k bs i h e = rw (drop-cons bs i 0, run_length, e)
-
--- a digit is read, and the rest goes on from there
-pub digit_more : (n m : ℕ) (bs : List ℕ) (i : ℕ) → i < length bs → digit_after n (get_or bs i 0) ≡ Some m → decimal_from n (drop i bs) ≡ decimal_from m (drop (i + 1) bs)
-unfolding decimal_from
-digit_more n m bs i h e = rw (add-one, drop-cons bs i 0, decimal_from, e)
-
--- what is no digit, or one too many, leaves no number
-pub digit_none : (n : ℕ) (bs : List ℕ) (i : ℕ) → i < length bs → digit_after n (get_or bs i 0) ≡ None → decimal_from n (drop i bs) ≡ None
-unfolding decimal_from
-digit_none n bs i h e = rw (drop-cons bs i 0, decimal_from, e)
-
--- nothing is left past the end
-pub run_none : (k : Bool) (bs : List ℕ) (i : ℕ) → length bs ≤ i → run_length k (drop i bs) ≡ 0
-unfolding run_length
-run_none k bs i h = rw (drop_of_length-le bs h, run_length)
-
--- all digits are read
-pub digit_end : (n : ℕ) (bs : List ℕ) (i : ℕ) → length bs ≤ i → decimal_from n (drop i bs) ≡ Some n
-unfolding decimal_from
-digit_end n bs i h = rw (drop_of_length-le bs h, decimal_from)
+-- what the parts of a text from a on, and there up to n and from n on, are
+pub parts : (s : List ℕ) (a n : ℕ) → a ≡ position_or_len (λ b. not (is_blank b)) s → n ≡ position_or_len is_blank (take (length s - a) (drop a s)) → (take n (take (length s - a) (drop a s)) ≡ word (skipped s)) × (drop n (take (length s - a) (drop a s)) ≡ after (skipped s))
+parts s a n ea en = (rw (en, take_rest s a, ea), rw (en, take_rest s a, ea))
 
 -- a word more is left behind
 pub word_more : (rest next : List ℕ) (place i : ℕ) → i < place → next ≡ after (skipped rest) → nth_word rest (place - i) ≡ nth_word next (place - (i + 1))
@@ -45,9 +34,46 @@ pub word_here : (rest : List ℕ) (place i : ℕ) → place ≤ i → nth_word r
 unfolding nth_word
 word_here rest place i h = let s : place - i ≡ 0 = omega arith in rw (s, nth_word)
 
--- what the parts of a text from a on, and there up to n and from n on, are
-pub front_part : (s : List ℕ) (a n : ℕ) → a ≡ run_length true s → n ≡ run_length false (take (length s - a) (drop a s)) → take (n - 0) (take (length s - a) (drop a s)) ≡ word (skipped s)
-front_part s a n ea en = rw (en, take_rest s a, ea, sub-zero)
+-- a digit is read, and the rest goes on from there
+digit_more : (n m b : ℕ) (bs : List ℕ) → digit_after n b ≡ Some m → decimal_from n (b ∷ bs) ≡ decimal_from m bs
+unfolding decimal_from
+digit_more n m b bs e = ap (λ (o : Option ℕ). elim o [ None ↦ None | Some k ↦ decimal_from k bs ]) e
 
-pub rest_part : (s : List ℕ) (a n : ℕ) → a ≡ run_length true s → n ≡ run_length false (take (length s - a) (drop a s)) → take (length (take (length s - a) (drop a s)) - n) (drop n (take (length s - a) (drop a s))) ≡ after (skipped s)
-rest_part s a n ea en = take_rest (take (length s - a) (drop a s)) n ∙ rw (en, take_rest s a, ea)
+-- what is no digit, or one too many, leaves no number
+digit_none : (n b : ℕ) (bs : List ℕ) → digit_after n b ≡ None → decimal_from n (b ∷ bs) ≡ None
+unfolding decimal_from
+digit_none n b bs e = ap (λ (o : Option ℕ). elim o [ None ↦ None | Some k ↦ decimal_from k bs ]) e
+
+-- all digits are read
+digit_end : (n : ℕ) → decimal_from n [] ≡ Some n
+unfolding decimal_from
+digit_end n = refl
+
+-- what `try_fold` gives that reads digit after digit
+module _ {S A F : Type 0} (E : Type 0) (steps : S → Option A → S → Type 0) (v : A → ℕ) (g : Mut F (ℕ × (A × Unit {0})) (Option ℕ)) (f : F)
+    (reads : (n : ℕ) (x : A) (w : Option ℕ) (q : F) → Called g f (n, (x, tt)) w q → (q ≡ f) × (w ≡ digit_after n (v x))) where
+  abbrev Ends : Option A → F → ℕ → Option ℕ → Type 0
+  Ends o q a r = MatchOption o (r ≡ Some a) (λ x. (w : Option ℕ) × (h : F) × (e : E) × Called g q (a, (x, tt)) w h × (w ≡ None) × (r ≡ None))
+
+  digits_read : (xs : List A) (o : Option A) (q q' : F) (n a : ℕ) (s t u : S) (all : List ℕ) (r : Option ℕ) → q ≡ f → AlwaysYields steps v s all → Yields steps s xs t → steps t o u
+      → FoldsTo {P = F × ℕ} (TryFoldTurn {E = E} g (λ w c. w ≡ continue_value c)) (q, n) xs (q', a) → Ends o q' a r → r ≡ decimal_from n all
+  digits_read [] None q q' n a s t u [] r is e y st fo en = en ∙ ap (λ (p : F × ℕ). Some p.1) (sym fo) ∙ sym (digit_end n)
+  digits_read [] None q q' n a s t u (b ∷ bs) r is e y st fo en = absurd (e.0 u (subst (λ z. steps z None u) (sym y) st))
+  digits_read [] (Some x) q q' n a s t u [] r is e y st fo en = absurd (e x u (subst (λ z. steps z (Some x) u) (sym y) st))
+  digits_read [] (Some x) q q' n a s t u (b ∷ bs) r is e y st fo en =
+      let h = e.1 x u (subst (λ z. steps z (Some x) u) (sym y) st) in
+      let here = subst (λ (p : F × ℕ). Called g p.0 (p.1, (x, tt)) en.0 en.1) (sym fo) en.3 in
+      let k = reads n x en.0 en.1 (subst (λ z. Called g z (n, (x, tt)) en.0 en.1) is here) in
+      en.5 ∙ sym (digit_none n b bs (ap (digit_after n) (sym h.0) ∙ sym k.1 ∙ en.4))
+  digits_read (x ∷ xs) o q q' n a s t u [] r is e y st fo en = absurd (e x y.0 y.1)
+  digits_read (x ∷ xs) o q q' n a s t u (b ∷ bs) r is e y st fo en =
+      let h = e.1 x y.0 y.1 in
+      let k = reads n x fo.1.0 fo.0.0 (subst (λ z. Called g z (n, (x, tt)) fo.1.0 fo.0.0) is fo.1.1) in
+      digits_read xs o fo.0.0 q' fo.0.1 a y.0 t u bs r k.0 h.1 y.2 st fo.2 en
+      ∙ sym (digit_more n fo.0.1 b bs (ap (digit_after n) (sym h.0) ∙ sym k.1 ∙ fo.1.2))
+
+pub number_read : {S A F E : Type 0} {steps : S → Option A → S → Type 0} {v : A → ℕ} {g : Mut F (ℕ × (A × Unit {0})) (Option ℕ)} {s : S} {all : List ℕ} (u : S) (f : F) (r : Option ℕ)
+    → TryFoldsItems steps g (λ w c. w ≡ continue_value {B = E} c) (λ e w. w ≡ None) s f 0 r u → YieldsList steps v s all
+    → ((n : ℕ) (x : A) (w : Option ℕ) (q : F) → Called g f (n, (x, tt)) w q → (q ≡ f) × (w ≡ digit_after n (v x))) → r ≡ decimal_from 0 all
+number_read {S} {A} {F} {E} {steps} {v} {g} {s} {all} u f r d y reads =
+    digits_read E steps v g f reads d.0 d.1 f d.2 0 d.3 s d.4.0 u all r refl y.runs d.4.1 d.4.2 d.5 d.6

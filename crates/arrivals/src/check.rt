@@ -5,9 +5,9 @@ ghost use Rattle.coding.specs.Nights.{night_exists};
 ghost use Rattle.arrivals.specs.Stays.{existing, key_number, fault_after, fault_count, found, sound_stay, counted, unread, with_outcome};
 
 use crate::findings::{Findings, NightFault, Totals};
-use crate::outcome::Outcome;
 use crate::stay::Stay;
 use coding::{Booking, BookingCoding, Coding, Night, NightCoding};
+use table::refusal::TableRefusal;
 
 /// The longest stay that is booked in one line.
 const MOST_NIGHTS: u64 = 64;
@@ -30,9 +30,7 @@ fn booking_exists(number: u64) -> bool
 pub fn key_number(stay: Stay, place: u64) -> Option<u64>
     ensures value { result ≡ key_number stay place }
 {
-    let Some(night) = stay.first.checked_add(place) else {
-        return None;
-    };
+    let night = stay.first.checked_add(place)?;
     NightCoding.number(Night {
         pitch: stay.pitch,
         night,
@@ -51,12 +49,9 @@ fn nights_listed(stay: Stay) -> u64
     ensures value { result ≡ existing stay.pitch stay.first stay.nights }
     ensures bound { stay.first + result < 2 ^ 64 }
 {
-    for i in 0..stay.nights {
-        if !has_night(stay, i) {
-            return i;
-        }
-    }
-    stay.nights
+    (0..stay.nights)
+        .find(|place| !has_night(stay, *place))
+        .unwrap_or(stay.nights)
 }
 
 /// Why the nights after the first few of a stay, which exist, are not listed.
@@ -142,15 +137,15 @@ impl Totals {
     }
 
     /// One night more that was entered, or refused.
-    pub fn add_outcome(&mut self, outcome: Outcome)
+    pub fn add_outcome(&mut self, outcome: Result<u64, TableRefusal>)
         ensures after { self.new ≡ with_outcome self.old outcome }
     {
         match outcome {
-            Outcome::Entered(load) => {
+            Ok(load) => {
                 self.entered = self.entered.saturating_add(1);
                 self.fullest = self.fullest.max(load);
             }
-            Outcome::Refused(_) => self.add_unread(),
+            Err(_) => self.add_unread(),
         }
     }
 }

@@ -7,6 +7,5 @@ pub mod findings;
 pub mod layout;
 pub mod lines;
 pub mod mix;
-pub mod outcome;
 pub mod place;
 pub mod stay;
