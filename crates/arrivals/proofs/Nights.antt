@@ -1,12 +1,12 @@
 -- The nights of a stay that exist, from the first one on.
-use Rattle.std.proofs.Common.{◌≡◌, ℕ, zero, suc, ◌+◌, ◌^◌, ◌<◌, ◌≤◌, true, false, cond, Option, None, Some, sym, ap, ◌∙◌, add-zero, arith, rules}
+use Rattle.std.proofs.Common.{◌≡◌, ℕ, zero, suc, ◌+◌, ◌^◌, ◌<◌, ◌≤◌, true, false, Option, None, Some, sym, ap, ◌∙◌, add-zero, arith, rules}
 use Rattle.std.specs.Prelude.{unwrap_or}
 use Rattle.std.specs.Option.{MatchOption}
 use Rattle.coding.specs.Nights.{night_exists}
 use Rattle.arrivals.specs.Stays.{existing}
 
 -- the nights before place i exist, and that at i does not, or is past the stay
-pub existing_is : (p t n i : ℕ) → i ≤ n → ((k : ℕ) → k < i → night_exists p (t + k) ≡ true) → (i < n → night_exists p (t + i) ≡ false) → existing p t n ≡ i
+existing_is : (p t n i : ℕ) → i ≤ n → ((k : ℕ) → k < i → night_exists p (t + k) ≡ true) → (i < n → night_exists p (t + i) ≡ false) → existing p t n ≡ i
 unfolding existing
 existing_is p t zero i h before at = omega arith
 existing_is p t (suc n) zero h before at = let e : night_exists p t ≡ false = rw add-zero at (at (omega arith)) in rw (existing, e)

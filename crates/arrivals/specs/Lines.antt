@@ -10,7 +10,7 @@
 -- passed_over   a line with no word, or whose first byte that is not blank is a #
 -- field_of      one number of a line, or what is wrong with it
 -- stay_of       the stay that a line writes, or what is wrong with it first
-use Rattle.std.specs.Prelude.{ℕ, zero, suc, ◌+◌, ◌-◌, ◌*◌, ◌^◌, Bool, true, false, cond, not, ◌&&◌, ◌||◌, List, [], ◌∷◌, take, drop, Some, None, Ok, Err, Option, Result, ◌==◌, nat_le, nat_lt}
+use Rattle.std.specs.Prelude.{ℕ, zero, suc, ◌+◌, ◌-◌, ◌*◌, ◌^◌, Bool, true, cond, not, ◌&&◌, ◌||◌, List, [], ◌∷◌, drop, Some, None, Ok, Err, Option, Result, ◌==◌, nat_le, nat_lt}
 use Rattle.std.specs.List.{position_or_len, before_first}
 use Rattle.arrivals.specs.declared.stay.Stay.{Stay}
 use Rattle.arrivals.specs.declared.stay.Field.{Field}

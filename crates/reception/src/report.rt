@@ -1,6 +1,5 @@
 //! What the program prints of each line of an arrival list, and of each night that it enters.
 use crate::show::Said;
-use arrivals::check::{check_stay, is_sound, key_number};
 use arrivals::findings::{Findings, Totals};
 use arrivals::lines::read_stay;
 use arrivals::mix::mix;
@@ -70,17 +69,11 @@ impl<P: Permutation + Drop, T: Table + Drop> NightTable<P, T> {
         stay: Stay,
         findings: Findings,
     ) -> io::Result<()> {
-        for i in 0..findings.listed {
-            let Some(key) = key_number(stay, i) else {
-                return Ok(());
-            };
-            println!(rt;
-                "  pitch {} night {}: key number {key}",
-                stay.pitch,
-                stay.first.saturating_add(i)
-            )?;
+        let keys = (0..findings.listed).map_while(|place| stay.key_number(place));
+        for (night, key) in (stay.first..).zip(keys) {
+            println!(rt; "  pitch {} night {night}: key number {key}", stay.pitch)?;
             let place = self.report_place(rt, key)?;
-            if is_sound(findings) {
+            if findings.is_sound() {
                 self.report_entry(rt, place, stay.booking)?;
             } else {
                 println!(rt; "not entered")?;
@@ -94,7 +87,7 @@ impl<P: Permutation + Drop, T: Table + Drop> NightTable<P, T> {
         match read_stay(line) {
             Ok(None) => Ok(()),
             Ok(Some(stay)) => {
-                let findings = check_stay(stay);
+                let findings = stay.check();
                 self.totals.add_stay(findings);
                 println!(rt; "{stay}")?;
                 self.report_nights(rt, stay, findings)?;
