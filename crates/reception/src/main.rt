@@ -51,14 +51,27 @@ fn run(rt: &HostRuntime) -> anyhow::Result<()> {
     let permutation = night_mix()
         .ok()
         .context("the permutation of the nights cannot be set up")?;
-    let shape = Shape::new(KEY_BITS, VALUE_BITS, SLOT_BITS)
-        .context("there is no table of this shape")?;
+    let shape = Shape::new(KEY_BITS, VALUE_BITS, SLOT_BITS).context(
+        "there is no table of this shape",
+    )?;
     let words = vec![in rt.alloc(); 0u64; WORDS]?;
     let bits = layout.entry_bits(shape);
     println!(rt; "{layout} table: an entry takes {bits} bits")?;
     match layout {
-        Layout::Packed => fill(rt, permutation, PackedTable::set_up(words), shape, list.as_str()),
-        Layout::Plain => fill(rt, permutation, PlainTable::set_up(words), shape, list.as_str()),
+        Layout::Packed => fill(
+            rt,
+            permutation,
+            PackedTable::set_up(words),
+            shape,
+            list.as_str(),
+        ),
+        Layout::Plain => fill(
+            rt,
+            permutation,
+            PlainTable::set_up(words),
+            shape,
+            list.as_str(),
+        ),
     }
 }
 

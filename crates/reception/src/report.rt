@@ -54,7 +54,10 @@ impl<P: Permutation + Drop, T: Table + Drop> NightTable<P, T> {
         let outcome = self.enter(place, booking);
         match outcome {
             Ok(load) => {
-                println!(rt; "entered, and its group holds {load} of {}", self.table.limit())?
+                println!(rt;
+                    "entered, and its group holds {load} of {}",
+                    self.table.limit()
+                )?
             }
             Err(refusal) => println!(rt; "fault: {}", Said(refusal))?,
         }
@@ -63,12 +66,7 @@ impl<P: Permutation + Drop, T: Table + Drop> NightTable<P, T> {
     }
 
     /// Prints each night of a stay that exists, and enters it where nothing is wrong with the stay.
-    fn report_nights(
-        &mut self,
-        rt: &impl Print,
-        stay: Stay,
-        findings: Findings,
-    ) -> io::Result<()> {
+    fn report_nights(&mut self, rt: &impl Print, stay: Stay, findings: Findings) -> io::Result<()> {
         let keys = (0..findings.listed).map_while(|place| stay.key_number(place));
         for (night, key) in (stay.first..).zip(keys) {
             println!(rt; "  pitch {} night {night}: key number {key}", stay.pitch)?;

@@ -9,7 +9,7 @@ use Rattle.entering.proofs.calls.calls_of.Goals as goal
 pub returns : goal.returns
 returns c = record {
   value = items_from_collect _ c.collect.ensures.ran
-    (YieldsList-from_chain
+      (YieldsList-from_chain
       (YieldsList-at c.chain.ensures.first (YieldsList-from_once (Some (Open c.args.b)) c.once.ensures.item))
       (YieldsList-at c.chain.ensures.second (YieldsList-from_map _ take_of (YieldsList-at c.map.ensures.source (YieldsList-from_slice c.args.stays.now c.iter.ensures.rest)) c.map.ensures.closure (λ x r q k. search (rules, tests))))
       c.chain.ensures.first_done c.chain.ensures.second_done);
