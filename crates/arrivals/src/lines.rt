@@ -1,6 +1,6 @@
 //! Reading a line: its words, the numbers that they write, and the stay that four numbers make.
 ghost use Rattle.std.specs.Prelude.{◌≡◌};
-ghost use Rattle.arrivals.specs.Lines.{is_blank as blank_byte, skipped, word, after, nth_word, digit_after, decimal, field_of, stay_of};
+ghost use Rattle.arrivals.specs.Lines.{is_blank as blank_byte, nth_word, digit_after, decimal, field_of, stay_of};
 
 use crate::stay::{Field, LineFault, Stay};
 
@@ -11,26 +11,14 @@ fn is_blank(byte: u8) -> bool
     matches!(byte, b' ' | b'\t' | b'\r')
 }
 
-/// The first word of a text, and what follows it.
-fn split_word(text: &[u8]) -> (&[u8], &[u8])
-    ensures first { result.0.now ≡ word (skipped text.now) }
-    ensures rest { result.1.now ≡ after (skipped text.now) }
-{
-    let start = text.iter().position(|byte| !is_blank(*byte));
-    let rest = &text[start.unwrap_or(text.len())..];
-    let end = rest.iter().position(|byte| is_blank(*byte));
-    rest.split_at(end.unwrap_or(rest.len()))
-}
-
 /// The word at a place of a line, the first being 0; an empty one where there are too few.
 fn word_at(line: &[u8], place: u64) -> &[u8]
     ensures value { result.now ≡ nth_word line.now place }
 {
-    let mut rest = line;
-    for _ in 0..place {
-        rest = split_word(rest).1;
-    }
-    split_word(rest).0
+    line.split(|byte| is_blank(*byte))
+        .filter(|word| !word.is_empty())
+        .nth(place as usize)
+        .unwrap_or_default()
 }
 
 /// The number that the digits of `n` and one more write, if it is a digit and the number is below 2^64.

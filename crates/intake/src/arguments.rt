@@ -17,7 +17,7 @@ pub enum Argument {
 /// The arguments that some words make, in their order: `--layout` and the word behind it are one.
 #[derive(Drop)]
 pub struct Arguments {
-    words: Args,
+    pub words: Args,
 }
 
 impl Arguments {
@@ -35,7 +35,7 @@ fn layout_behind(words: &mut Args) -> Result<Argument, NoLayout>
     ensures left { into_iter_len words.new ≤ into_iter_len words.old }
 {
     let word = words.next().ok_or(NoLayout)?;
-    let layout = word.as_str().parse()?;
+    let layout = word.as_str().parse::<Layout>()?;
     Ok(Argument::Layout(layout))
 }
 

@@ -1,6 +1,6 @@
 use Rattle.std.proofs.Common.{rules, tests}
 use Rattle.std.proofs.lemmas.Iterator.{YieldsList-from_slice}
-use Rattle.arrivals.proofs.Reading.{number_read}
+use Rattle.arrivals.proofs.Digits.{number_read}
 use Rattle.arrivals.proofs.lines.number.Goals as goal
 
 pub returns : goal.returns

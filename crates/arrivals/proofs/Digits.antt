@@ -1,38 +1,13 @@
--- One byte, or one word, more of a text that is read from the front.
-use Rattle.std.proofs.Common.{◌≡◌, ℕ, suc, ◌+◌, ◌-◌, ◌<◌, ◌≤◌, Bool, cond, ltb, List, [], ◌∷◌, length, Some, None, Option, refl, sym, ap, subst, take, drop, ◌∙◌, arith}
-use Rattle.std.specs.Prelude.{not, unwrap_or}
-use Rattle.std.proofs.lemmas.Iterator.{YieldsList}
-use Rattle.std.proofs.lemmas.List.{take_rest}
-use Rattle.std.specs.List.{position_or_len, FoldsTo}
+-- Digit after digit of a number.
+use Rattle.std.proofs.Common.{◌≡◌, ℕ, List, [], ◌∷◌, Some, None, Option, refl, sym, ap, subst, ◌∙◌}
+use Rattle.std.specs.List.{FoldsTo}
 use Rattle.std.specs.Option.{MatchOption}
 use Rattle.std.specs.Iterator.{AlwaysYields, Yields, TryFoldTurn, TryFoldsItems}
 use Rattle.std.specs.Fn.{Called}
 use Rattle.std.specs.ControlFlow.{continue_value}
-use Rattle.std.proofs.lemmas.Bool.Decides.{nat_tests}
-use Rattle.std.proofs.lemmas.List.Sums.{prefix_len-le-length}
+use Rattle.std.proofs.lemmas.Iterator.{YieldsList}
 use denote.Param.Members.{Mut}
-use Rattle.arrivals.specs.Lines.{is_blank, skipped, word, after, nth_word, digit_after, decimal_from}
-
--- the place that `position` finds, or else the length
-pub place_or_end : (p : ℕ → Bool) (xs : List ℕ) (r : Option ℕ) → r ≡ cond (ltb (position_or_len p xs) (length xs)) (Some (position_or_len p xs)) None → unwrap_or r (length xs) ≡ position_or_len p xs
-place_or_end p xs r e =
-    let h : position_or_len p xs ≤ length xs = prefix_len-le-length _ xs in
-    rw e (grind (arith, nat_tests))
-
--- what the parts of a text from a on, and there up to n and from n on, are
-pub parts : (s : List ℕ) (a n : ℕ) → a ≡ position_or_len (λ b. not (is_blank b)) s → n ≡ position_or_len is_blank (take (length s - a) (drop a s)) → (take n (take (length s - a) (drop a s)) ≡ word (skipped s)) × (drop n (take (length s - a) (drop a s)) ≡ after (skipped s))
-parts s a n ea en = (rw (en, take_rest s a, ea), rw (en, take_rest s a, ea))
-
--- a word more is left behind
-pub word_more : (rest next : List ℕ) (place i : ℕ) → i < place → next ≡ after (skipped rest) → nth_word rest (place - i) ≡ nth_word next (place - (i + 1))
-unfolding nth_word
-word_more rest next place i h e =
-    let s : place - i ≡ suc (place - (i + 1)) = omega arith in rw (s, nth_word, e)
-
--- the place is reached
-pub word_here : (rest : List ℕ) (place i : ℕ) → place ≤ i → nth_word rest (place - i) ≡ word (skipped rest)
-unfolding nth_word
-word_here rest place i h = let s : place - i ≡ 0 = omega arith in rw (s, nth_word)
+use Rattle.arrivals.specs.Lines.{digit_after, decimal_from}
 
 -- a digit is read, and the rest goes on from there
 digit_more : (n m b : ℕ) (bs : List ℕ) → digit_after n b ≡ Some m → decimal_from n (b ∷ bs) ≡ decimal_from m bs
