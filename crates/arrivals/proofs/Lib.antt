@@ -1,2 +1,3 @@
+mod Digits
 mod Nights
-mod Reading
+mod Words

@@ -1,2 +1,4 @@
+pub mod Layouts
 pub mod Lines
 pub mod Stays
+pub mod Texts

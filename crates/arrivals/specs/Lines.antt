@@ -1,7 +1,6 @@
 -- How a line of text is read: its words, the numbers that they write, and the stay that four of them make.
 --
 -- is_blank      a byte that parts words: a space, a tab or a carriage return
--- run_length    how many bytes at the front are blank, or are not
 -- skipped       a text without its blank front
 -- word          a text up to its first blank
 -- after         a text from its first blank on
@@ -11,8 +10,8 @@
 -- passed_over   a line with no word, or whose first byte that is not blank is a #
 -- field_of      one number of a line, or what is wrong with it
 -- stay_of       the stay that a line writes, or what is wrong with it first
-use Rattle.std.specs.Prelude.{ℕ, zero, suc, ◌+◌, ◌-◌, ◌*◌, ◌^◌, Bool, true, false, cond, ◌&&◌, ◌||◌, List, [], ◌∷◌, take, drop, Some, None, Ok, Err, Option, Result, ◌==◌, nat_le, nat_lt}
-use Rattle.std.specs.Bool.{beq}
+use Rattle.std.specs.Prelude.{ℕ, zero, suc, ◌+◌, ◌-◌, ◌*◌, ◌^◌, Bool, true, cond, not, ◌&&◌, ◌||◌, List, [], ◌∷◌, drop, Some, None, Ok, Err, Option, Result, ◌==◌, nat_le, nat_lt}
+use Rattle.std.specs.List.{position_or_len, before_first}
 use Rattle.arrivals.specs.declared.stay.Stay.{Stay}
 use Rattle.arrivals.specs.declared.stay.Field.{Field}
 use Rattle.arrivals.specs.declared.stay.Field.TheVariants.{Pitch, First, Nights, Booking}
@@ -23,22 +22,14 @@ use Rattle.arrivals.specs.declared.stay.LineFault.TheVariants.{Missing, NotANumb
 abbrev pub is_blank : ℕ → Bool
 is_blank b = b == 32 || b == 9 || b == 13
 
--- whether a byte is of the kind that is asked for: blank, or not
-abbrev pub of_kind : (blank : Bool) → ℕ → Bool
-of_kind blank b = beq (is_blank b) blank
-
-unfoldable pub run_length : (blank : Bool) → List ℕ → ℕ
-run_length blank [] = 0
-run_length blank (b ∷ bs) = cond (of_kind blank b) (suc (run_length blank bs)) 0
-
 abbrev pub skipped : List ℕ → List ℕ
-skipped bs = drop (run_length true bs) bs
+skipped bs = drop (position_or_len (λ b. not (is_blank b)) bs) bs
 
 abbrev pub word : List ℕ → List ℕ
-word bs = take (run_length false bs) bs
+word bs = before_first is_blank bs
 
 abbrev pub after : List ℕ → List ℕ
-after bs = drop (run_length false bs) bs
+after bs = drop (position_or_len is_blank bs) bs
 
 unfoldable pub nth_word : List ℕ → ℕ → List ℕ
 nth_word bs zero = word (skipped bs)

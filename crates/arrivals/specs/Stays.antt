@@ -8,16 +8,15 @@
 -- counted       the totals with one stay more
 -- unread        the totals with one line more that cannot be read
 -- with_outcome  the totals with what came of entering one night
-use Rattle.std.specs.Prelude.{ℕ, zero, suc, ◌+◌, ◌-◌, ◌^◌, min, max, Bool, true, false, cond, ◌&&◌, Some, None, Option, ◌==◌, nat_le}
+use Rattle.std.specs.Prelude.{ℕ, zero, suc, ◌+◌, ◌-◌, ◌^◌, min, max, Bool, true, false, cond, ◌&&◌, Some, None, Option, Ok, Err, Result, ◌==◌, nat_le}
 use Rattle.coding.specs.Nights.{night_exists, night_number}
 use Rattle.coding.specs.Bookings.{booking_exists}
+use Rattle.table.specs.declared.refusal.TableRefusal.{TableRefusal}
 use Rattle.arrivals.specs.declared.stay.Stay.{Stay}
 use Rattle.arrivals.specs.declared.findings.NightFault.{NightFault}
 use Rattle.arrivals.specs.declared.findings.NightFault.TheVariants.{Length, NoPitch, NoNight}
 use Rattle.arrivals.specs.declared.findings.Findings.{Findings}
 use Rattle.arrivals.specs.declared.findings.Totals.{Totals}
-use Rattle.arrivals.specs.declared.outcome.Outcome.{Outcome}
-use Rattle.arrivals.specs.declared.outcome.Outcome.TheVariants.{Entered, Refused}
 
 unfoldable pub existing : (pitch night n : ℕ) → ℕ
 existing pitch night zero = 0
@@ -77,12 +76,12 @@ unread t = record {
 }
 
 -- a night that is entered is counted, and the load of its group if it is the largest yet; one that is refused is a fault
-abbrev pub with_outcome : Totals → Outcome → Totals
-with_outcome t (Entered load) = record {
+abbrev pub with_outcome : Totals → Result ℕ TableRefusal → Totals
+with_outcome t (Ok load) = record {
   stays = t.stays;
   nights = t.nights;
   faults = t.faults;
   entered = capped (t.entered + 1);
   fullest = max t.fullest load;
 }
-with_outcome t (Refused e) = unread t
+with_outcome t (Err e) = unread t

@@ -5,9 +5,9 @@ ghost use Rattle.coding.specs.Nights.{night_exists};
 ghost use Rattle.arrivals.specs.Stays.{existing, key_number, fault_after, fault_count, found, sound_stay, counted, unread, with_outcome};
 
 use crate::findings::{Findings, NightFault, Totals};
-use crate::outcome::Outcome;
 use crate::stay::Stay;
 use coding::{Booking, BookingCoding, Coding, Night, NightCoding};
+use table::refusal::TableRefusal;
 
 /// The longest stay that is booked in one line.
 const MOST_NIGHTS: u64 = 64;
@@ -26,89 +26,88 @@ fn booking_exists(number: u64) -> bool
     BookingCoding.number(Booking { number }).is_some()
 }
 
-/// The key number of one night of a stay, the first being 0; none where that night does not exist.
-pub fn key_number(stay: Stay, place: u64) -> Option<u64>
-    ensures value { result ≡ key_number stay place }
-{
-    let Some(night) = stay.first.checked_add(place) else {
-        return None;
-    };
-    NightCoding.number(Night {
-        pitch: stay.pitch,
-        night,
-    })
-}
+impl Stay {
+    /// The key number of one night of the stay, the first being 0; none where that night does not exist.
+    pub fn key_number(self, place: u64) -> Option<u64>
+        ensures value { result ≡ key_number self place }
+    {
+        let night = self.first.checked_add(place)?;
+        NightCoding.number(Night {
+            pitch: self.pitch,
+            night,
+        })
+    }
 
-/// Whether one night of a stay exists, the first being 0.
-fn has_night(stay: Stay, place: u64) -> bool
-    ensures value { result ≡ night_exists stay.pitch (stay.first + place) }
-{
-    key_number(stay, place).is_some()
-}
+    /// Whether one night of the stay exists, the first being 0.
+    fn has_night(self, place: u64) -> bool
+        ensures value { result ≡ night_exists self.pitch (self.first + place) }
+    {
+        self.key_number(place).is_some()
+    }
 
-/// How many nights of a stay, from the first on, exist.
-fn nights_listed(stay: Stay) -> u64
-    ensures value { result ≡ existing stay.pitch stay.first stay.nights }
-    ensures bound { stay.first + result < 2 ^ 64 }
-{
-    for i in 0..stay.nights {
-        if !has_night(stay, i) {
-            return i;
+    /// How many nights of the stay, from the first on, exist.
+    fn nights_listed(self) -> u64
+        ensures value { result ≡ existing self.pitch self.first self.nights }
+        ensures bound { self.first + result < 2 ^ 64 }
+    {
+        (0..self.nights)
+            .find(|place| !self.has_night(*place))
+            .unwrap_or(self.nights)
+    }
+
+    /// Why the nights after the first few, which exist, are not listed.
+    fn fault_after(self, listed: u64) -> Option<NightFault>
+        requires { self.first + listed < 2 ^ 64 }
+        ensures value { result ≡ fault_after self listed }
+    {
+        if listed == self.nights {
+            return None;
+        }
+        if night_exists(self.pitch, 0) {
+            Some(NightFault::NoNight(self.first + listed))
+        } else {
+            Some(NightFault::NoPitch(self.pitch))
         }
     }
-    stay.nights
-}
 
-/// Why the nights after the first few of a stay, which exist, are not listed.
-fn fault_after(stay: Stay, listed: u64) -> Option<NightFault>
-    requires { stay.first + listed < 2 ^ 64 }
-    ensures value { result ≡ fault_after stay listed }
-{
-    if listed == stay.nights {
-        return None;
-    }
-    if night_exists(stay.pitch, 0) {
-        Some(NightFault::NoNight(stay.first + listed))
-    } else {
-        Some(NightFault::NoPitch(stay.pitch))
-    }
-}
-
-/// What is found of a stay.
-pub fn check_stay(stay: Stay) -> Findings
-    ensures value { result ≡ found stay }
-{
-    let booked = booking_exists(stay.booking);
-    if stay.nights == 0 || stay.nights > MOST_NIGHTS {
-        return Findings {
-            listed: 0,
-            fault: Some(NightFault::Length),
+    /// What is found of the stay.
+    pub fn check(self) -> Findings
+        ensures value { result ≡ found self }
+    {
+        let booked = booking_exists(self.booking);
+        if self.nights == 0 || self.nights > MOST_NIGHTS {
+            return Findings {
+                listed: 0,
+                fault: Some(NightFault::Length),
+                booked,
+            };
+        }
+        let listed = self.nights_listed();
+        let fault = self.fault_after(listed);
+        Findings {
+            listed,
+            fault,
             booked,
-        };
-    }
-    let listed = nights_listed(stay);
-    let fault = fault_after(stay, listed);
-    Findings {
-        listed,
-        fault,
-        booked,
+        }
     }
 }
 
-/// How many faults a stay has.
-fn fault_count(findings: Findings) -> u64
-    ensures value { result ≡ fault_count findings }
-    ensures bound { result ≤ 2 }
-{
-    let nights = u64::from(findings.fault.is_some());
-    nights + u64::from(!findings.booked)
-}
+impl Findings {
+    /// How many faults the stay has.
+    fn fault_count(self) -> u64
+        ensures value { result ≡ fault_count self }
+        ensures bound { result ≤ 2 }
+    {
+        let nights = u64::from(self.fault.is_some());
+        nights + u64::from(!self.booked)
+    }
 
-/// Whether nothing is wrong with a stay, so that it may be entered.
-pub fn is_sound(findings: Findings) -> bool
-    ensures value { result ≡ sound_stay findings }
-{
-    fault_count(findings) == 0
+    /// Whether nothing is wrong with the stay, so that it may be entered.
+    pub fn is_sound(self) -> bool
+        ensures value { result ≡ sound_stay self }
+    {
+        self.fault_count() == 0
+    }
 }
 
 impl Totals {
@@ -131,7 +130,7 @@ impl Totals {
     {
         self.stays = self.stays.saturating_add(1);
         self.nights = self.nights.saturating_add(findings.listed);
-        self.faults = self.faults.saturating_add(fault_count(findings));
+        self.faults = self.faults.saturating_add(findings.fault_count());
     }
 
     /// One line more that cannot be read.
@@ -142,15 +141,15 @@ impl Totals {
     }
 
     /// One night more that was entered, or refused.
-    pub fn add_outcome(&mut self, outcome: Outcome)
+    pub fn add_outcome(&mut self, outcome: Result<u64, TableRefusal>)
         ensures after { self.new ≡ with_outcome self.old outcome }
     {
         match outcome {
-            Outcome::Entered(load) => {
+            Ok(load) => {
                 self.entered = self.entered.saturating_add(1);
                 self.fullest = self.fullest.max(load);
             }
-            Outcome::Refused(_) => self.add_unread(),
+            Err(_) => self.add_unread(),
         }
     }
 }

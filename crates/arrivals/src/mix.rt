@@ -4,7 +4,7 @@ ghost use Rattle.std.specs.Prelude.{◌≡◌, true, is_ok, IfOk};
 use permutation::{Affine, Chain, Permutation, SetUpRefusal, XorShift};
 
 /// A scrambled key number, and the key number that it goes back to.
-#[derive(Clone, Copy)]
+#[derive(Clone, Copy, PartialEq, Eq, Debug)]
 pub struct Mixed {
     pub scrambled: u64,
     pub back: u64,

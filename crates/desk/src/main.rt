@@ -2,14 +2,14 @@
 //! It prints what came of each line. Both tables of the register are packed unless the other layout is asked for.
 #![tactic(auto)]
 
-use anyhow::anyhow;
+use anyhow::{Context, anyhow};
 use std::process::ExitCode;
-use std::{fs, io};
 
 mod options;
 mod report;
 mod show;
 
+use arrivals::layout::Layout;
 use arrivals::lines::read_stay;
 use arrivals::mix::night_mix;
 use arrivals::stay::Stay;
@@ -17,11 +17,14 @@ use blocks::{PackedTable, PlainTable};
 use coding::{BookingCoding, NightCoding};
 use entering::calls::calls_of;
 use entering::outcomes::opening;
+use intake::ending::end;
+use intake::list::read_list;
+use intake::options::Options;
 use model::answer::Answer;
-use options::{Layout, read_options};
+use options::read_options;
 use register::replay;
 use report::report_list;
-use show::refusal_text;
+use show::Said;
 use std::alloc::{AllocError, Global};
 use table::table::Table;
 
@@ -30,36 +33,24 @@ const WORDS: usize = 16_384;
 /// The bits of a slot number.
 const SLOT_BITS: u32 = 10;
 
-/// The text of the file, or else of standard input.
-fn read_list(rt: &HostRuntime, path: Option<String>) -> anyhow::Result<String> {
-    match path {
-        Some(path) => Ok(fs::read_to_string(rt, path)?),
-        None => Ok(io::read_to_string(rt.alloc(), rt.stdin())?),
-    }
-}
-
 /// The stays of the lines that can be read.
 fn read_stays(heap: Global, list: &str) -> Result<Vec<Stay>, AllocError> {
-    let mut stays = Vec::new(heap);
-    for line in list.lines() {
-        if let Ok(Some(stay)) = read_stay(line.as_bytes()) {
-            stays.push(stay)?;
-        }
-    }
-    Ok(stays)
+    list.lines()
+        .filter_map(|line| read_stay(line.as_bytes()).ok().flatten())
+        .collect(heap)
 }
 
 /// Puts the stays of a list to a register over two tables, and prints what came of it.
 fn enter<T: Table + Drop>(
     rt: &HostRuntime,
-    layout: &str,
+    layout: Layout,
     first: T,
     second: T,
     list: &str,
 ) -> anyhow::Result<()> {
-    let Ok(permutation) = night_mix() else {
-        return Err(anyhow!("the permutation of the nights cannot be set up"));
-    };
+    let permutation = night_mix()
+        .ok()
+        .context("the permutation of the nights cannot be set up")?;
     let stays = read_stays(rt.alloc(), list)?;
     let calls = calls_of(rt.alloc(), SLOT_BITS, &stays)?;
     let mut answers = vec![in rt.alloc(); Answer::Number(0); calls.len()]?;
@@ -72,41 +63,31 @@ fn enter<T: Table + Drop>(
         &calls,
         &mut answers,
     );
-    match opening(&answers) {
-        Ok(b) => println!(rt; "night register open: {layout} tables, 2^{b} slots")?,
-        Err(why) => return Err(anyhow!("{}", refusal_text(why))),
-    }
+    let b = opening(&answers).map_err(|why| anyhow!("{}", Said(why)))?;
+    println!(rt; "night register open: {layout} tables, 2^{b} slots")?;
     report_list(rt, list, &answers, register.count())?;
     Ok(())
 }
 
 fn run(rt: &HostRuntime) -> anyhow::Result<()> {
-    let options = read_options(rt)?;
-    let layout = options.layout;
+    let Options { layout, path } = read_options(rt)?;
     let first = vec![in rt.alloc(); 0u64; WORDS]?;
     let second = vec![in rt.alloc(); 0u64; WORDS]?;
-    let list = read_list(rt, options.path)?;
+    let list = read_list(rt, path)?;
     match layout {
         Layout::Packed => {
             let first = PackedTable::set_up(first);
             let second = PackedTable::set_up(second);
-            enter(rt, "packed", first, second, list.as_str())
+            enter(rt, layout, first, second, list.as_str())
         }
         Layout::Plain => {
             let first = PlainTable::set_up(first);
             let second = PlainTable::set_up(second);
-            enter(rt, "plain", first, second, list.as_str())
+            enter(rt, layout, first, second, list.as_str())
         }
     }
 }
 
 fn main(rt: HostRuntime) -> ExitCode {
-    match run(&rt) {
-        Ok(()) => ExitCode::SUCCESS,
-        Err(fault) => {
-            // Where standard error cannot be written, the status is all that is left to say.
-            let _ = eprintln!(rt; "desk: {fault}");
-            ExitCode::FAILURE
-        }
-    }
+    end(&rt, "desk", run(&rt))
 }

@@ -1,5 +1,5 @@
 //! What the program prints of each line of an arrival list, and of the whole.
-use crate::show::{print_line_fault, refusal_text};
+use crate::show::Said;
 use arrivals::lines::read_stay;
 use arrivals::stay::Stay;
 use coding::Booking;
@@ -16,11 +16,7 @@ fn word(n: u64, one: &'static str, many: &'static str) -> &'static str {
 
 /// Prints a stay and what came of it.
 fn report_stay(rt: &impl Print, stay: Stay, outcome: Result<u64, RunRefusal>) -> io::Result<()> {
-    let nights = word(stay.nights, "night", "nights");
-    print!(rt;
-        "booking {}: pitch {}, {} {nights} from night {} -> ",
-        stay.booking, stay.pitch, stay.nights, stay.first
-    )?;
+    print!(rt; "{stay} -> ")?;
     match outcome {
         Ok(n) => println!(rt; "taken {n}"),
         Err(refusal) => {
@@ -28,7 +24,7 @@ fn report_stay(rt: &impl Print, stay: Stay, outcome: Result<u64, RunRefusal>) ->
                 "refused {} at place {} ({})",
                 refusal.why.number(),
                 refusal.place,
-                refusal_text(refusal.why)
+                Said(refusal.why)
             )
         }
     }
@@ -56,21 +52,18 @@ pub fn report_list(
     held: u64,
 ) -> io::Result<()> {
     let mut totals = Totals::none();
-    let mut number: u64 = 0;
-    let mut place: usize = 0;
-    for line in list.lines() {
-        number = number.saturating_add(1);
+    for (number, line) in (1u64..).zip(list.lines()) {
         match read_stay(line.as_bytes()) {
             Ok(None) => {}
             Ok(Some(stay)) => {
-                let outcome = outcome_at(answers, place);
-                place = place.saturating_add(1);
+                // The stays that are counted so far are those before this one.
+                let outcome = outcome_at(answers, totals.stays);
                 totals.add_stay(outcome);
                 report_stay(rt, stay, outcome)?;
             }
             Err(fault) => {
                 totals.add_unread();
-                print_line_fault(rt, number, fault)?;
+                println!(rt; "line {number} cannot be read: {fault}")?;
             }
         }
     }

@@ -6,6 +6,7 @@ use arrivals::stay::Stay;
 use coding::{Booking, Night};
 use model::call::Call;
 use std::alloc::{AllocError, Global};
+use std::iter::once;
 
 /// The call that takes the nights of a stay under its booking.
 fn take_of(stay: Stay) -> Call<Night, Booking>
@@ -29,10 +30,7 @@ pub fn calls_of(
 ) -> Result<Vec<Call<Night, Booking>>, AllocError>
     ensures value { IfOk result (λ v. v.items ≡ calls_of b stays.now) }
 {
-    let mut calls = Vec::new(heap);
-    calls.push(Call::Open(b))?;
-    for stay in stays {
-        calls.push(take_of(*stay))?;
-    }
-    Ok(calls)
+    once(Call::Open(b))
+        .chain(stays.iter().map(|stay| take_of(*stay)))
+        .collect(heap)
 }

@@ -31,12 +31,10 @@ fn outcome(answer: Answer<Booking>) -> Result<u64, RunRefusal>
 }
 
 /// What came of the stay at a place of the list, the first being 0. The answer to the open comes before those to the takes.
-pub fn outcome_at(answers: &[Answer<Booking>], place: usize) -> Result<u64, RunRefusal>
+pub fn outcome_at(answers: &[Answer<Booking>], place: u64) -> Result<u64, RunRefusal>
     ensures value { result ≡ outcome_at answers.now place }
 {
-    let takes = answers.len().saturating_sub(1);
-    if place >= takes {
-        return Err(Refusal::Unreached.at(0));
-    }
-    outcome(answers[place + 1])
+    let mut takes = answers.iter().skip(1);
+    let answer = takes.nth(place as usize).ok_or(Refusal::Unreached.at(0))?;
+    outcome(*answer)
 }

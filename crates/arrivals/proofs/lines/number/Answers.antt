@@ -1,14 +1,7 @@
-use Rattle.std.proofs.Common.{sym, ◌∙◌}
-use Rattle.arrivals.proofs.Reading.{digit_more, digit_none, digit_end}
+use Rattle.std.proofs.Common.{rules, tests}
+use Rattle.std.proofs.lemmas.Iterator.{YieldsList-from_slice}
+use Rattle.arrivals.proofs.Digits.{number_read}
 use Rattle.arrivals.proofs.lines.number.Goals as goal
 
-pub returns-in_default : goal.returns-in_default
-returns-in_default c =
-    record { value = sym (c.loop-byte.invariant ∙ digit_none _ _ _ c.loop-byte-test.true (sym c.in_default.ensures.value)) }
-
-pub loop-byte-preserved : goal.loop-byte-preserved
-loop-byte-preserved c =
-    c.loop-byte.invariant ∙ digit_more _ _ _ _ c.loop-byte-test.true (sym c.in-Some.ensures.value)
-
 pub returns : goal.returns
-returns c = record { value = sym (c.loop-byte.invariant ∙ digit_end _ _ _ c.loop-byte-test.false) }
+returns c = record { value = number_read _ _ _ c.try_fold.ensures.ran (YieldsList-from_slice c.args.text.now cc) (λ n x w q k. search (rules, tests)) }
