@@ -5,7 +5,7 @@ use Rattle.std.proofs.lemmas.Bool.{and_parts, ltb-true}
 use Rattle.std.proofs.lemmas.Nat.{mod_below}
 use Rattle.table.specs.declared.refusal.TableRefusal.{TableRefusal}
 use Rattle.table.specs.declared.shape.Shape.{Shape}
-use Rattle.table.specs.Meaning.{formed, value_in, total, load, has_slot, in_range, answer_of, found, found_at, sized, sized_at, picked, entered, entered_at, loaded, loaded_at, weigh_held, weigh_range, added, add_reply, admitted, removed_from, remove_at, remove_end}
+use Rattle.table.specs.Meaning.{formed, value_in, total, load, has_slot, in_range, weigh_held, weigh_range, added, add_reply, removed_from, remove_at, remove_end}
 use Rattle.table.specs.Layout.{Layout, group_at, group_added, group_reply, group_removed, group_without, words_of, content, meaning, Well}
 use Rattle.table.specs.Lawful.{Lawful}
 use Rattle.table.specs.Checking.{Given}
@@ -101,7 +101,7 @@ module _ (L : Layout) (law : Lawful L) (ws : List ℕ) (o : Option Shape) (wl : 
         (subst (λ x. P (L.read x.k x.v x.b (take (at.end - at.start) (drop at.start ys))) j) se
         (subst (λ x. P (L.read shape.k shape.v shape.b x) j) be p))
 
--- what the calls answer that change nothing
+-- the calls that are refused by what the slot and its group hold
 module _ (L : Layout) (ws : List ℕ) (o : Option Shape) (s q w : ℕ) (shape : Shape) (j : ℕ) (block : List ℕ) (r : Read L ws o s q w shape j block) where
   -- the slots that the words read as
   slots : List (List (ℕ × ℕ))
@@ -116,36 +116,6 @@ module _ (L : Layout) (ws : List ℕ) (o : Option Shape) (s q w : ℕ) (shape : 
 
   slot_in : has_slot shape.b s ≡ true
   slot_in = (and_parts _ _ in_it).0
-
-  -- find
-  pub found_here : answer_of (value_in (slice_index_or (L.read shape.k shape.v shape.b block) j []) q) ≡ found (meaning L ws o) s q
-  unfolding slots
-  found_here = ap (λ u. answer_of (value_in u q)) r.entries ∙ ap (found_at slots s q) (sym in_it) ∙ ap (λ m. found m s q) (sym means_it)
-
-  -- size
-  pub sized_here : Ok (length (slice_index_or (L.read shape.k shape.v shape.b block) j [])) ≡ sized (meaning L ws o) s
-  unfolding slots
-  sized_here = ap (λ u. Ok (length u)) r.entries ∙ ap (sized_at slots s) (sym slot_in) ∙ ap (λ m. sized m s) (sym means_it)
-
-  -- entry
-  pub entered_here : (i : ℕ) → picked (slice_index_or (L.read shape.k shape.v shape.b block) j []) i ≡ entered (meaning L ws o) s i
-  unfolding slots
-  entered_here i = ap (λ u. picked u i) r.entries ∙ ap (entered_at slots s i) (sym slot_in) ∙ ap (λ m. entered m s i) (sym means_it)
-
-  -- load
-  pub loaded_here : Ok (total (L.read shape.k shape.v shape.b block)) ≡ loaded L.S (meaning L ws o) s
-  unfolding slots
-  loaded_here = ap Ok r.counted ∙ ap (loaded_at L.S slots s) (sym slot_in) ∙ ap (λ m. loaded L.S m s) (sym means_it)
-
-  -- what stands against one more entry
-  pub admitted_here : (earlier : ℕ)
-      → weigh_held L.C (total (L.read shape.k shape.v shape.b block) + earlier) (value_in (slice_index_or (L.read shape.k shape.v shape.b block) j []) q)
-      ≡ admitted L.S L.C (meaning L ws o) s q w earlier
-  unfolding slots
-  admitted_here earlier =
-      ap₂ (λ (x : ℕ) (y : List (ℕ × ℕ)). weigh_held L.C (x + earlier) (value_in y q)) r.counted r.entries
-      ∙ ap (weigh_range L.C (load L.S slots s + earlier) (slice_index_or slots s []) q) (sym r.allowed)
-      ∙ ap (λ m. admitted L.S L.C m s q w earlier) (sym means_it)
 
   -- add, where something stands against it
   pub stood : (e : TableRefusal) → weigh_held L.C (total (L.read shape.k shape.v shape.b block)) (value_in (slice_index_or (L.read shape.k shape.v shape.b block) j []) q) ≡ Err e

@@ -1,7 +1,6 @@
 pub mod Readable
 pub mod Weighing
 pub mod Called
-pub mod Refusing
 pub mod PlainPlaces
 pub mod PlainAdding
 pub mod PlainRemoving

@@ -1,5 +1,5 @@
 -- What the tests of slots, areas and blocks decide.
-use Rattle.std.proofs.Common.{◌≡◌, ℕ, ◌+◌, ◌-◌, ◌*◌, ◌/◌, ◌%◌, ◌^◌, ◌<◌, ◌≤◌, Bool, true, false, List, [], ◌∷◌, ◌++◌, map, length, get_or, take, drop, Decides, sym, refl, ap, ◌∙◌, subst, ap₂, ⊎_elim, zero-mul, arith, pow_pos}
+use Rattle.std.proofs.Common.{◌≡◌, ℕ, ◌+◌, ◌-◌, ◌*◌, ◌/◌, ◌%◌, ◌^◌, ◌<◌, Bool, true, false, List, [], ◌∷◌, ◌++◌, map, length, get_or, take, drop, Decides, sym, refl, ap, ◌∙◌, subst, ap₂, zero-mul, arith, pow_pos}
 use native.Mathlib.Nat.{div-eq_of_lt}
 use lib.Pow.{split}
 use Rattle.std.specs.List.{range_with_len, AllWithin, HoldsAt}
@@ -15,7 +15,7 @@ use Rattle.bits.proofs.Numbers.{words_number}
 use Rattle.bits.proofs.Packs.{packed_lt, packed_fields, length_fields, getD_fields}
 use Rattle.bits.proofs.Lists.{below_take, below_drop}
 use Rattle.bits.proofs.Splices.{bits_lt}
-use Rattle.table.specs.Meaning.{Good, total, value_in}
+use Rattle.table.specs.Meaning.{Good, total}
 use Rattle.table.specs.Places.{First}
 use Rattle.table.specs.Checking.{Given}
 use Rattle.table.specs.Layout.{GoodGroup}
@@ -52,7 +52,7 @@ module _ (k v b : ℕ) (block : List ℕ) (mb : MarkedBlock k v b block) where
     -- what a test of every place decides
     pub apart_decided : (n : ℕ) → n ≡ length (get_or (slots_of 1 k v b block) j []) → (r : Bool)
         → MatchBool r (AllWithin (λ x. First (get_or (slots_of 1 k v b block) j []) (get_or (get_or (slots_of 1 k v b block) j []) x (0, 0)).0 x) (range_with_len 0 n) 0 (length (range_with_len 0 n)))
-          ((i : ℕ) × (i < length (range_with_len 0 n)) × HoldsAt (λ x. First (get_or (slots_of 1 k v b block) j []) (get_or (get_or (slots_of 1 k v b block) j []) x (0, 0)).0 x → ⊥) (range_with_len 0 n) i)
+        ((i : ℕ) × (i < length (range_with_len 0 n)) × HoldsAt (λ x. First (get_or (slots_of 1 k v b block) j []) (get_or (get_or (slots_of 1 k v b block) j []) x (0, 0)).0 x → ⊥) (range_with_len 0 n) i)
         → Decides r (Good (k - b) v (get_or (slots_of 1 k v b block) j []))
     apart_decided n ns true m = each_first (λ i h.
         let es = get_or (slots_of 1 k v b block) j [] in

@@ -1,5 +1,5 @@
 -- What stands against one more entry of a block, and what adding it leaves.
-use Rattle.std.proofs.Common.{◌≡◌, ℕ, ◌+◌, ◌*◌, ◌^◌, ◌<◌, List, [], ◌∷◌, length, get_or, set, Ok, Err, Result, sym, ap, ◌∙◌, arith}
+use Rattle.std.proofs.Common.{◌≡◌, ℕ, ◌+◌, ◌*◌, ◌^◌, ◌<◌, List, [], ◌∷◌, length, get_or, set, Ok, Result, sym, ap, ◌∙◌, arith}
 use Rattle.table.specs.declared.refusal.TableRefusal.{TableRefusal}
 use Rattle.table.specs.Meaning.{value_in, weigh_held}
 use Rattle.table.specs.Layout.{group_added, group_reply}
@@ -15,12 +15,6 @@ pub record Appended (block last : List ℕ) (q w : ℕ) (r : Result (Unit {0}) T
 module _ (block : List ℕ) (st : Stored block) (q w : ℕ) (r : Result (Unit {0}) TableRefusal) (weighs : r ≡ weigh_held 15 (length (entries_of block) + 0) (value_in (entries_of block) q)) where
   whole : group_reply (entries_of block ∷ []) 0 q w r ≡ group_added 15 (entries_of block ∷ []) 0 q w
   whole = ap (group_reply (entries_of block ∷ []) 0 q w) weighs
-
-  -- something stands against it
-  pub refused_case : (e : TableRefusal) → r ≡ Err e → Appended block block q w (Err e)
-  refused_case e is =
-      let p = ap (group_reply (entries_of block ∷ []) 0 q w) (sym is) ∙ whole in
-      record { after = st.exact ∙ ap (λ t. block_of_group t.0) p; value = ap (λ t. t.1) p }
 
   -- nothing does, so there is room
   pub room_left : (u : Unit {0}) → r ≡ Ok u → get_or block 0 0 < 15

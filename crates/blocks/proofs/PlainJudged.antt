@@ -58,15 +58,14 @@ module _ (xs : List ℕ) (q v : ℕ) where
       let at = at_is i h in
       let m : i < length (map entry_of xs) = omega (arith, long_is) in
       let le : i ≤ length xs = omega arith in
-      let n : length (map entry_of (take i xs)) ≡ i = length-map (take i xs) entry_of ∙ length-take-le i xs le in
-      (
+      let n : length (map entry_of (take i xs)) ≡ i = length-map (take i xs) entry_of ∙ length-take-le i xs le in (
         subst (λ t. t.0 < 2 ^ q) at (g.quotients i m),
         subst (λ t. t.1 < 2 ^ v) at (g.values i m),
         none_from (map entry_of (take i xs)) (get_or xs i 0 % 2 ^ 32) (λ j l e.
-        let jl : j < i = omega (arith, n) in
-        let same : get_or (map entry_of (take i xs)) j (0, 0) ≡ get_or (map entry_of xs) j (0, 0) =
-        ap (λ t. get_or t j (0, 0)) (sym (take-map entry_of i xs)) ∙ get_or-take i (map entry_of xs) j (0, 0) jl in
-        g.apart j i jl m (ap (λ t. t.0) (sym same) ∙ e ∙ sym (ap (λ t. t.0) at))),
+            let jl : j < i = omega (arith, n) in
+            let same : get_or (map entry_of (take i xs)) j (0, 0) ≡ get_or (map entry_of xs) j (0, 0) =
+            ap (λ t. get_or t j (0, 0)) (sym (take-map entry_of i xs)) ∙ get_or-take i (map entry_of xs) j (0, 0) jl in
+            g.apart j i jl m (ap (λ t. t.0) (sym same) ∙ e ∙ sym (ap (λ t. t.0) at))),
       )
 
   -- what a test of every place decides

@@ -1,16 +1,10 @@
 -- Taking an entry out of a block.
-use Rattle.std.proofs.Common.{◌≡◌, ℕ, suc, ◌+◌, ◌-◌, ◌/◌, ◌^◌, ◌<◌, ◌≤◌, List, [], ◌∷◌, ◌++◌, map, length, get_or, take, drop, set, replicate, None, Ok, Err, Result, sym, refl, ap, ◌∙◌, ap₂, add-one, arith}
+use Rattle.std.proofs.Common.{◌≡◌, ℕ, suc, ◌+◌, ◌-◌, ◌/◌, ◌^◌, ◌<◌, ◌≤◌, List, [], ◌∷◌, ◌++◌, map, length, get_or, take, drop, set, replicate, sym, refl, ap, ◌∙◌, ap₂, add-one, arith}
 use borrow.Rule.Slice.PartMut.{put_mid}
 use Rattle.std.specs.List.{remove}
 use Rattle.std.proofs.lemmas.List.Edits.{length-remove}
 use Rattle.std.proofs.lemmas.List.{append_assoc, map-append, take-map, drop-map, length-map, length-append, length-take-le, length-drop, take-append-drop, drop_more, take_at, drop_at, set_at}
-use Rattle.table.specs.declared.refusal.TableRefusal.{TableRefusal}
-use Rattle.table.specs.declared.refusal.TableRefusal.TheVariants.{Absent}
-use Rattle.table.specs.Meaning.{value_in, without}
-use Rattle.table.specs.Places.{First}
-use Rattle.table.specs.Layout.{group_removed, group_without}
-use Rattle.table.proofs.Slots.{first_value, first_without}
-use Rattle.blocks.specs.PlainLayout.{block_of, block_of_group, entries_of, word_of, Stored}
+use Rattle.blocks.specs.PlainLayout.{block_of, entries_of, word_of, Stored}
 use Rattle.blocks.specs.PlainBlocks.{stored_count, entry_at}
 
 -- the words moved down by one over the first, the last made zero
@@ -75,23 +69,3 @@ module _ (block : List ℕ) (st : Stored block) (i : ℕ) (h : i < get_or block 
       let tail : A ++ ((B ++ (0 ∷ [])) ++ z) ≡ map word_of r ++ replicate (15 - length r) 0 =
       ap (λ t. A ++ t) (append_assoc B (0 ∷ []) z) ∙ sym (append_assoc A B (0 ∷ z)) ∙ ap₂ (λ u w. u ++ w) (sym words) zeros in
       ap (λ t. set t 0 (get_or block 0 0 - 1)) after ∙ ap₂ (λ u w. u ∷ w) head tail
-
--- what a removal leaves and answers
-pub record Removed (block last : List ℕ) (q : ℕ) (r : Result ℕ TableRefusal) : Type 0 where
-  pub after : last ≡ block_of_group (group_removed (entries_of block ∷ []) 0 q).0
-  pub value : r ≡ (group_removed (entries_of block ∷ []) 0 q).1
-
-module _ (block : List ℕ) (st : Stored block) (q : ℕ) where
-  -- the slot does not hold the quotient
-  pub absent_case : value_in (entries_of block) q ≡ None → Removed block block q (Err Absent)
-  absent_case e =
-      let p : (entries_of block ∷ [], Err Absent) ≡ group_removed (entries_of block ∷ []) 0 q = ap (group_without (entries_of block ∷ []) 0 q) (sym e) in
-      record { after = st.exact ∙ ap (λ t. block_of_group t.0) p; value = ap (λ t. t.1) p }
-
-  -- it holds it first at place i
-  pub removed_case : (i : ℕ) → First (entries_of block) q i → (last : List ℕ) → last ≡ block_of (remove (entries_of block) i)
-      → (x : ℕ) → x ≡ (get_or (entries_of block) i (0, 0)).1 → Removed block last q (Ok x)
-  removed_case i f last e x v =
-      let es = entries_of block in
-      let p : (without es q ∷ [], Ok (get_or es i (0, 0)).1) ≡ group_removed (es ∷ []) 0 q = ap (group_without (es ∷ []) 0 q) (sym (first_value es q i f)) in
-      record { after = e ∙ ap block_of (sym (first_without es q i f)) ∙ ap (λ t. block_of_group t.0) p; value = ap Ok v ∙ ap (λ t. t.1) p }

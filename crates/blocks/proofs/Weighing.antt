@@ -1,5 +1,5 @@
 -- What stands against one more entry of a slot, and what a place of it says.
-use Rattle.std.proofs.Common.{◌≡◌, ℕ, ◌+◌, ◌<◌, ◌≤◌, Bool, true, false, eqb, List, length, get_or, Some, None, Err, Option, sym, ap, ◌∙◌, subst, ⊎_elim, arith}
+use Rattle.std.proofs.Common.{◌≡◌, ℕ, ◌<◌, Bool, true, false, eqb, List, length, get_or, Some, None, Err, Option, sym, ap, ◌∙◌, subst, ⊎_elim, arith}
 use Rattle.std.specs.Option.{is_some, option_eq, MatchOption}
 use Rattle.std.specs.List.{range_with_len, AllWithin, HoldsAt}
 use Rattle.std.proofs.lemmas.Bool.{cases_lt, eq-eqb, eqb-true}
@@ -34,7 +34,7 @@ not_first es q i (Some x) p e f =
 -- what a search of the places, one after the other, comes to
 pub placed_found : (es : List (ℕ × ℕ)) (q n : ℕ) → n ≡ length es → (r : Option ℕ)
     → MatchOption r (AllWithin (λ x. (get_or es x (0, 0)).0 ≡ q → ⊥) (range_with_len 0 n) 0 (length (range_with_len 0 n)))
-      (λ x. ((get_or es x (0, 0)).0 ≡ q) × (i : ℕ) × (i < length (range_with_len 0 n)) × HoldsAt (λ y. y ≡ x) (range_with_len 0 n) i × AllWithin (λ x. (get_or es x (0, 0)).0 ≡ q → ⊥) (range_with_len 0 n) 0 i)
+    (λ x. ((get_or es x (0, 0)).0 ≡ q) × (i : ℕ) × (i < length (range_with_len 0 n)) × HoldsAt (λ y. y ≡ x) (range_with_len 0 n) i × AllWithin (λ x. (get_or es x (0, 0)).0 ≡ q → ⊥) (range_with_len 0 n) 0 i)
     → Placed es q r
 placed_found es q n ns None m = none_from es q (λ j h s.
     let l : j < n = omega (arith, ns) in

@@ -1,8 +1,8 @@
 -- Add and remove as changes of one group, and what a refusal leaves.
-use Rattle.std.proofs.Common.{◌≡◌, ℕ, zero, suc, ◌+◌, ◌*◌, ◌/◌, ◌%◌, ◌^◌, ◌<◌, ◌≤◌, Bool, true, false, ◌&&◌, ltb, List, [], ◌∷◌, ◌++◌, length, get_or, take, drop, set, Some, None, Ok, Err, Option, Result, sym, refl, ap, ◌∙◌, subst, ⊎_elim, add-zero, mul-one, div-one, arith}
+use Rattle.std.proofs.Common.{◌≡◌, ℕ, zero, suc, ◌+◌, ◌*◌, ◌/◌, ◌%◌, ◌^◌, ◌<◌, ◌≤◌, Bool, true, false, ◌&&◌, ltb, List, [], ◌∷◌, ◌++◌, length, get_or, set, Some, None, Ok, Err, Option, Result, sym, refl, ap, ◌∙◌, subst, ⊎_elim, add-zero, arith}
 use Rattle.std.proofs.lemmas.Nat.{div_below}
 use Rattle.std.proofs.lemmas.Bool.{cases_eq, leb-true, leb-false, le-leb}
-use Rattle.std.proofs.lemmas.List.{length_push, length-set, set-get_or, get_or-set_same, get_or-set_other, drop_more}
+use Rattle.std.proofs.lemmas.List.{length_push, length-set, set-get_or, get_or-set_same, get_or-set_other}
 use Rattle.table.specs.declared.refusal.TableRefusal.{TableRefusal}
 use Rattle.table.specs.Slots.{full}
 use Rattle.table.specs.Meaning.{Meaning, unformed, formed, Good, value_in, without, total, load, in_range, formed_anew, formed_at, weigh_held, weigh_room, weigh_range, weighed, added, add_reply, admitted, removed_from, remove_at, remove_end}
@@ -17,13 +17,6 @@ pub total_set : (G : List (List (ℕ × ℕ))) (j : ℕ) → j < length G → (e
 total_set [] j h es = absurd (omega arith)
 total_set (x ∷ G) zero h es = omega arith
 total_set (x ∷ G) (suc j) h es = let i = total_set G j (omega arith) es in omega arith
-
--- in groups of one slot the load is the slot's length
-pub load_one : (slots : List (List (ℕ × ℕ))) (s : ℕ) → s < length slots → load 1 slots s ≡ length (get_or slots s [])
-unfolding load
-load_one slots s h =
-    let e : s / 1 * 1 ≡ s = mul-one (s / 1) ∙ div-one s in
-    ap (λ t. total (take 1 (drop t slots))) e ∙ ap (λ t. total (take 1 t)) (drop_more slots s [] h) ∙ omega arith
 
 -- ---- what is not refused
 

@@ -1,5 +1,5 @@
 -- Words that are those of a content, from their blocks and back; what the scan for the first wrong block comes to.
-use Rattle.std.proofs.Common.{◌≡◌, ℕ, ◌+◌, ◌-◌, ◌*◌, ◌<◌, Bool, true, false, List, [], ◌++◌, map, length, get_or, drop, replicate, Ok, Err, Decides, Result, sym, refl, ap, ◌∙◌, subst, inl, inr, ⊎_elim, arith, below_more}
+use Rattle.std.proofs.Common.{◌≡◌, ℕ, ◌-◌, ◌*◌, ◌<◌, Bool, true, false, List, [], ◌++◌, map, length, get_or, drop, replicate, Ok, Err, Decides, Result, sym, refl, ap, ◌∙◌, subst, inr, ⊎_elim, arith}
 use Rattle.std.specs.List.{range_with_len, flat_map}
 use Rattle.std.proofs.lemmas.List.{length-drop}
 use Rattle.std.proofs.lemmas.List.FromFn.{get_or-map-range_with_len, length-map-range_with_len}
@@ -78,21 +78,6 @@ module _ (L : Layout) (law : Lawful L) (ws : List ℕ) (k v b : ℕ) where
   pub wrong_fit : L.fits (length ws) k v b ≡ false → Answer (Err DoesNotFit)
   wrong_fit e = answered (Err DoesNotFit) e
 
-  -- a block that is not given, after blocks that are
-  pub wrong_here : L.fits (length ws) k v b ≡ true → (g : ℕ) → g < L.count b → ((i : ℕ) → i < g → Given L k v b (part (L.width k v b) i ws))
-      → (block : List ℕ) → block ≡ part (L.width k v b) g ws → (r : Bool) → r ≡ false → Decides r (Given L k v b block) → Answer (Err (WrongBlock g))
-  wrong_here fit g l inv block is r off d = answered (Err (WrongBlock g)) (record {
-    fit = fit;
-    before = inv;
-    here = inl (l, λ given. not_from_Decides r d off (subst (Given L k v b) (sym is) given));
-  })
-
-  -- one more block that is given
-  pub given_more : (g : ℕ) → ((i : ℕ) → i < g → Given L k v b (part (L.width k v b) i ws))
-      → (block : List ℕ) → block ≡ part (L.width k v b) g ws → (r : Bool) → r ≡ true → Decides r (Given L k v b block)
-      → (i : ℕ) → i < g + 1 → Given L k v b (part (L.width k v b) i ws)
-  given_more g inv block is r on d = below_more (λ i. Given L k v b (part (L.width k v b) i ws)) g inv (subst (Given L k v b) is (d.0 on))
-
   -- every block given: the words past them decide
   module _ (fit : L.fits (length ws) k v b ≡ true) (n : ℕ) (e : n ≡ L.count b) (inv : (i : ℕ) → i < n → Given L k v b (part (L.width k v b) i ws))
       (rest : List ℕ) (is : rest ≡ drop (L.count b * L.width k v b) ws) (r : Bool) (d : Decides r (rest ≡ replicate (length rest) 0)) where
@@ -108,7 +93,3 @@ module _ (L : Layout) (law : Lawful L) (ws : List ℕ) (k v b : ℕ) where
 
     pub all_right : r ≡ true → Answer (Ok tt)
     all_right on = answered (Ok tt) (holds_from fit (λ i l. inv i (omega arith)) (sym is ∙ d.0 on ∙ rest_long))
-
--- a refusal is no pass
-pub refused_not : (r : Result (Unit {0}) CheckRefusal) (e : CheckRefusal) → r ≡ Err e → r ≡ Ok tt → ⊥
-refused_not r e p q = let z : ◌≡◌ {A = ℕ} 0 1 = cc (p, q) in omega arith

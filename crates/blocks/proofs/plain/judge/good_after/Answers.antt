@@ -1,4 +1,4 @@
-use Rattle.std.proofs.Common.{◌≡◌, ◌-◌, ◌/◌, ◌%◌, ◌^◌, ◌<◌, map, arith, rules}
+use Rattle.std.proofs.Common.{◌-◌, ◌/◌, ◌%◌, ◌^◌, ◌<◌, map, arith}
 use Rattle.std.proofs.lemmas.Nat.{one_shl}
 use Rattle.blocks.specs.PlainLayout.{entry_of}
 use Rattle.blocks.proofs.PlainJudged.{none_decides}

@@ -1,4 +1,4 @@
-use Rattle.std.proofs.Common.{◌≡◌, ℕ, ◌+◌, ◌-◌, ◌*◌, take, drop, length, refl, arith, rules}
+use Rattle.std.proofs.Common.{◌+◌, ◌-◌, ◌*◌, take, drop, refl, arith, rules}
 use Rattle.std.proofs.lemmas.Iterator.{serves_from_Range, first_from_find, YieldsList-from_range}
 use Rattle.std.proofs.lemmas.Bool.Decides.{not_from_Decides}
 use borrow.Author.Tests.{tests}
