@@ -20,7 +20,7 @@ use model::answer::Answer;
 use options::{Layout, read_options};
 use packed::PackedTable;
 use plain::PlainTable;
-use register::replay;
+use register::{Parts, replay};
 use report::report_list;
 use show::refusal_text;
 use std::alloc::{AllocError, Global};
@@ -64,15 +64,14 @@ fn enter<T: Table + Drop>(
     let stays = read_stays(rt.alloc(), list)?;
     let calls = calls_of(rt.alloc(), SLOT_BITS, &stays)?;
     let mut answers = vec![in rt.alloc(); Answer::Number(0); calls.len()]?;
-    let (register, _) = replay(
-        NightCoding,
-        BookingCoding,
+    let parts = Parts {
+        keys: NightCoding,
+        values: BookingCoding,
         permutation,
         first,
         second,
-        &calls,
-        &mut answers,
-    );
+    };
+    let (register, _) = replay(parts, &calls, &mut answers);
     match opening(&answers) {
         Ok(b) => println!(rt; "night register open: {layout} tables, 2^{b} slots")?,
         Err(why) => return Err(anyhow!("{}", refusal_text(why))),
