@@ -22,7 +22,7 @@ use intake::list::read_list;
 use intake::options::Options;
 use model::answer::Answer;
 use options::read_options;
-use register::replay;
+use register::{Parts, replay};
 use report::report_list;
 use show::Said;
 use std::alloc::{AllocError, Global};
@@ -54,15 +54,14 @@ fn enter<T: Table + Drop>(
     let stays = read_stays(rt.alloc(), list)?;
     let calls = calls_of(rt.alloc(), SLOT_BITS, &stays)?;
     let mut answers = vec![in rt.alloc(); Answer::Number(0); calls.len()]?;
-    let (register, _) = replay(
-        NightCoding,
-        BookingCoding,
+    let parts = Parts {
+        keys: NightCoding,
+        values: BookingCoding,
         permutation,
         first,
         second,
-        &calls,
-        &mut answers,
-    );
+    };
+    let (register, _) = replay(parts, &calls, &mut answers);
     let b = opening(&answers).map_err(|why| anyhow!("{}", Said(why)))?;
     println!(rt; "night register open: {layout} tables, 2^{b} slots")?;
     report_list(rt, list, &answers, register.count())?;

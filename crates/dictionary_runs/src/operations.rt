@@ -4,8 +4,7 @@
 use crate::layout::Layout;
 use crate::mirror::{Kind, Mirror, Outcome, power};
 use crate::noise::Noise;
-use blocks::{PackedTable, PlainTable};
-use dictionary::{cancel_run, entry_at, look_up, redistribute, take_run};
+use dictionary::{Addressing, Run, redistribute};
 use model::run_refusal::RunRefusal;
 use permutation::{Affine, Chain, Identity, Permutation, XorShift};
 use std::io;
@@ -69,23 +68,23 @@ fn one<P: Permutation, T: Table>(
     noise: &mut Noise,
 ) -> io::Result<bool> {
     let (m, n, w) = some_run(noise);
+    let by = Addressing { permutation, shape };
+    let run = Run {
+        first: m,
+        length: n,
+        value: w,
+    };
     match noise.below(8) {
         0 | 1 | 2 => {
             let expected = mirror.take(m, n, w)?;
-            Ok(alike(
-                outcome(take_run(permutation, table, shape, m, n, w)),
-                expected,
-            ))
+            Ok(alike(outcome(by.take_run(table, run)), expected))
         }
         3 | 4 => {
             let expected = mirror.cancel(m, n, w);
-            Ok(alike(
-                outcome(cancel_run(permutation, table, shape, m, n, w)),
-                expected,
-            ))
+            Ok(alike(outcome(by.cancel_run(table, run)), expected))
         }
         5 => {
-            let got = match look_up(permutation, table, shape, m) {
+            let got = match by.look_up(table, m) {
                 Ok(value) => value,
                 Err(refusal) => refusal.number().saturating_add(1000),
             };
@@ -94,7 +93,7 @@ fn one<P: Permutation, T: Table>(
         _ => {
             let i = noise.below(120);
             let expected = mirror.entry(i);
-            match entry_at(permutation, table, shape, i) {
+            match by.entry_at(table, i) {
                 Some((key, value)) => Ok(key == expected.key && value == expected.value),
                 None => Ok(expected.key == 1000),
             }

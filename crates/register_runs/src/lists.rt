@@ -132,7 +132,13 @@ fn pair<
         first: first.kind(),
         second: second.kind(),
     };
-    let machine = Register::assemble(setting.keys, setting.values, permutation, first, second);
+    let machine = Register::assemble(register::Parts {
+        keys: setting.keys,
+        values: setting.values,
+        permutation,
+        first,
+        second,
+    });
     run_list(rt, what, machine, parts, b, total)
 }
 

@@ -121,15 +121,14 @@ fn replayed(rt: &HostRuntime, number: u64, room: usize, total: &mut Tally) -> io
     let calls = calls_from(rt, 4, number)?;
     let items = items_of(rt, calls.as_slice())?;
     let mut answers = room_for(rt, room)?;
-    let (register, put) = replay(
-        NightCoding,
-        BookingCoding,
+    let parts = register::Parts {
+        keys: NightCoding,
+        values: BookingCoding,
         permutation,
-        packed_table(rt, 150)?,
-        packed_table(rt, 290)?,
-        items.as_slice(),
-        answers.as_mut_slice(),
-    );
+        first: packed_table(rt, 150)?,
+        second: packed_table(rt, 290)?,
+    };
+    let (register, put) = replay(parts, items.as_slice(), answers.as_mut_slice());
     let mut tally = Tally::new();
     tally.count(put == items.len().min(room));
     let answers = answers.as_slice();
@@ -213,11 +212,23 @@ fn replayed_on_both(
     let items = items_of(rt, calls.as_slice())?;
     let mut answers = room_for(rt, rooms.0)?;
     let mut others = room_for(rt, rooms.1)?;
-    let one = (packed_table(rt, 150)?, packed_table(rt, 290)?);
-    let other = (plain_table(rt, 520)?, plain_table(rt, 1030)?);
+    let one = register::Parts {
+        keys: NightCoding,
+        values: BookingCoding,
+        permutation: mixed,
+        first: packed_table(rt, 150)?,
+        second: packed_table(rt, 290)?,
+    };
+    let other = register::Parts {
+        keys: NightCoding,
+        values: BookingCoding,
+        permutation: straight,
+        first: plain_table(rt, 520)?,
+        second: plain_table(rt, 1030)?,
+    };
     let (first, second, put) = replay_both(
-        (NightCoding, BookingCoding, mixed, one.0, one.1),
-        (NightCoding, BookingCoding, straight, other.0, other.1),
+        one,
+        other,
         items.as_slice(),
         answers.as_mut_slice(),
         others.as_mut_slice(),

@@ -8,7 +8,7 @@ use model::answer::Answer;
 use model::call::Call;
 use model::refusal::Refusal;
 use permutation::Identity;
-use register::Register;
+use register::{Parts, Register};
 use std::io;
 use table::refusal::TableRefusal;
 use table::table::Table;
@@ -51,7 +51,13 @@ pub fn nights<A: Table, B: Table>(
     first: A,
     second: B,
 ) -> Register<NightCoding, BookingCoding, Identity, A, B> {
-    Register::assemble(NightCoding, BookingCoding, same, first, second)
+    Register::assemble(Parts {
+        keys: NightCoding,
+        values: BookingCoding,
+        permutation: same,
+        first,
+        second,
+    })
 }
 
 /// The same calls over packed tables.

@@ -8,7 +8,7 @@ use model::answer::Answer::{Entry, Number, Refused, Value};
 use model::call::Call::{At, Cancel, Count, Find, Open, Take};
 use model::refusal::Refusal;
 use permutation::Identity;
-use register::Register;
+use register::{Parts, Register};
 use std::io;
 use table::refusal::TableRefusal;
 use tally::tally::Tally;
@@ -109,7 +109,13 @@ pub fn cards(rt: &HostRuntime, total: &mut Tally) -> io::Result<()> {
     let mut tally = Tally::new();
     let one = packed_table(rt, 150)?;
     let other = plain_table(rt, 1030)?;
-    let register = Register::assemble(CardCoding, LoanCoding, same, one, other);
+    let register = Register::assemble(Parts {
+        keys: CardCoding,
+        values: LoanCoding,
+        permutation: same,
+        first: one,
+        second: other,
+    });
     follow(rt, &mut tally, register, &steps)?;
     ended(rt, "card 0, and the last card", &tally, total)
 }
