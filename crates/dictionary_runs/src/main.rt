@@ -3,9 +3,11 @@
 
 use std::io;
 
-mod layout;
+mod calls;
+mod compared;
 mod mirror;
-mod noise;
+mod mixed;
+mod operation;
 mod operations;
 
 fn main(rt: HostRuntime) -> io::Result<()> {
