@@ -39,10 +39,7 @@ impl Content {
     pub fn load(&self, slot: u64) -> u64 {
         let group = |slot: u64| times(slot, self.layout.kind.group());
         let own = group(slot);
-        self.entries
-            .iter()
-            .filter(|e| group(e.slot) == own)
-            .count() as u64
+        self.entries.iter().filter(|e| group(e.slot) == own).count() as u64
     }
 
     /// How many entries the slot holds.

@@ -104,10 +104,7 @@ impl<T: Tried> Damage<T> {
 
     /// Widths that do not fit words: keep gives an unformed table of zeros.
     pub fn unfit(&mut self, words: Vec<u64>, k: u32, v: u32, b: u32) {
-        let refused = reports(
-            T::checked(&words, k, v, b),
-            Err(CheckRefusal::DoesNotFit),
-        );
+        let refused = reports(T::checked(&words, k, v, b), Err(CheckRefusal::DoesNotFit));
         let table = T::kept(words, k, v, b);
         self.tally
             .count(refused && all_zero(table.shown()) && !table.fits(k, v, b));

@@ -63,7 +63,10 @@ impl Widths {
     /// Prints the widths, how often a slot held the quotient and a group was full, and the cases.
     fn report(self, rt: &HostRuntime, t: &Pair<PackedTable>, what: &str) -> io::Result<()> {
         let Widths { k, v, b } = self;
-        print!(rt; "k = {k}, v = {v}, b = {b}, {} held, {} full, ", t.held, t.full)?;
+        print!(rt;
+            "k = {k}, v = {v}, b = {b}, {} held, {} full, ",
+            t.held, t.full
+        )?;
         t.tally.show(rt, what)
     }
 

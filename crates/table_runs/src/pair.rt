@@ -29,7 +29,10 @@ fn written(why: TableRefusal) -> u64 {
 }
 
 /// Whether an answer is the wanted one, and its refusal has the number that is written down here.
-pub fn is<V: PartialEq + Drop>(got: Result<V, TableRefusal>, want: Result<V, TableRefusal>) -> bool {
+pub fn is<V: PartialEq + Drop>(
+    got: Result<V, TableRefusal>,
+    want: Result<V, TableRefusal>,
+) -> bool {
     got == want && got.err().is_none_or(|why| why.number() == written(why))
 }
 
