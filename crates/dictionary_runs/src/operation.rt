@@ -1,6 +1,7 @@
 //! What is put to a dictionary, and what it answers.
 use expected::noise::Noise;
 use expected::numbers::power;
+use expected::refusals::number;
 use model::refusal::Refusal;
 use model::run_refusal::RunRefusal;
 use table::refusal::TableRefusal;
@@ -95,22 +96,8 @@ impl Answer {
         }
     }
 
-    /// Whether it is the wanted one, and its refusal has the number that is written down here.
+    /// Whether it is the wanted one, and its refusal has its number.
     pub fn is(self, want: Answer) -> bool {
-        let number = self.refusal().map(|why| why.number());
-        self == want && number == want.refusal().and_then(written)
-    }
-}
-
-/// The number of each refusal that a dictionary may answer.
-fn written(why: Refusal) -> Option<u64> {
-    match why {
-        Refusal::Table(TableRefusal::OutOfRange) => Some(2),
-        Refusal::Table(TableRefusal::Held) => Some(3),
-        Refusal::Table(TableRefusal::Full) => Some(4),
-        Refusal::Table(TableRefusal::Absent) => Some(5),
-        Refusal::Table(TableRefusal::DoesNotFit) => Some(6),
-        Refusal::OtherValue => Some(17),
-        _ => None,
+        self == want && self.refusal().is_none_or(|why| why.number() == number(why))
     }
 }

@@ -1,4 +1,5 @@
 pub mod Blocks
 pub mod Kinds
 pub mod Noise
+pub mod Refusals
 pub mod Words

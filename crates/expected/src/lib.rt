@@ -7,4 +7,5 @@ pub mod layout;
 pub mod noise;
 pub mod numbers;
 mod packed;
+pub mod refusals;
 pub mod words;

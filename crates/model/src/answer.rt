@@ -2,7 +2,7 @@ use crate::refusal::Refusal;
 use crate::run_refusal::RunRefusal;
 
 /// What a register answers to a call; `V` is the item of its values.
-#[derive(Clone, Copy)]
+#[derive(Clone, Copy, PartialEq, Eq, Debug)]
 pub enum Answer<V> {
     /// The b of an open or an enlarge, the n of a take or a cancel, or the count.
     Number(u64),

@@ -1,5 +1,5 @@
 /// One call to a register; `K` and `V` are the items of its keys and of its values.
-#[derive(Clone, Copy)]
+#[derive(Clone, Copy, PartialEq, Eq, Debug)]
 pub enum Call<K, V> {
     /// Opens a closed register, with 2^b slots.
     Open(u32),

@@ -2,6 +2,7 @@
 use crate::content::Content;
 use crate::tried::Tried;
 use expected::layout::{Entry, Layout};
+use expected::refusals::table_number;
 use std::io;
 use table::refusal::TableRefusal;
 use tally::tally::Tally;
@@ -16,24 +17,15 @@ pub struct Pair<T: Tried> {
     pub full: u64,
 }
 
-/// The number of each refusal.
-fn written(why: TableRefusal) -> u64 {
-    match why {
-        TableRefusal::Unformed => 1,
-        TableRefusal::OutOfRange => 2,
-        TableRefusal::Held => 3,
-        TableRefusal::Full => 4,
-        TableRefusal::Absent => 5,
-        TableRefusal::DoesNotFit => 6,
-    }
-}
-
-/// Whether an answer is the wanted one, and its refusal has the number that is written down here.
+/// Whether an answer is the wanted one, and its refusal has its number.
 pub fn is<V: PartialEq + Drop>(
     got: Result<V, TableRefusal>,
     want: Result<V, TableRefusal>,
 ) -> bool {
-    got == want && got.err().is_none_or(|why| why.number() == written(why))
+    got == want
+        && got
+            .err()
+            .is_none_or(|why| why.number() == table_number(why))
 }
 
 /// How a table of these widths stands in its words.
