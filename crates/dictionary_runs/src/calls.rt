@@ -1,5 +1,5 @@
 //! The calls of the dictionary.
-use crate::operation::{Answer, Held, Operation};
+use crate::operation::{Answer, Operation};
 use dictionary::{cancel_run, entry_at, look_up, redistribute, take_run};
 use permutation::Permutation;
 use table::shape::Shape;
@@ -30,10 +30,7 @@ impl<'a, P: Permutation, A: Table, B: Table> InUse<'a, P, A, B> {
                 Answer::Run(cancel_run(permutation, table, shape, run.m, run.n, run.value))
             }
             Operation::LookUp(key) => Answer::Value(look_up(permutation, table, shape, key)),
-            Operation::Entry(i) => {
-                let entry = entry_at(permutation, table, shape, i);
-                Answer::Entry(entry.map(|(key, value)| Held { key, value }))
-            }
+            Operation::Entry(i) => Answer::Entry(entry_at(permutation, table, shape, i)),
             Operation::Enlarge => Answer::Moved(redistribute(table, other, shape)),
         }
     }

@@ -4,7 +4,6 @@
 use std::io;
 
 mod calls;
-mod compared;
 mod mirror;
 mod mixed;
 mod operation;

@@ -1,8 +1,9 @@
 //! What a dictionary should answer: a list of what is held, in order of arrival, and formulas for where it stands.
-use crate::operation::{Answer, Held, Operation, Run};
+use crate::operation::{Answer, Operation, Run};
+use expected::held::{Held, load, value};
 use expected::kind::Kind;
 use expected::layout::{Entry, Layout};
-use expected::numbers::{power, rest, times};
+use expected::numbers::power;
 use model::refusal::Refusal;
 use model::run_refusal::RunRefusal;
 use std::alloc::{AllocError, Global};
@@ -54,35 +55,28 @@ impl Mirror {
         }
     }
 
-    /// Where a key number stands among 2^b slots, and what is stored of it there.
-    fn entry(&self, held: Held, b: u32) -> Entry {
-        let mixed = self.mixed.get(held.key as usize);
-        let permuted = mixed.copied().unwrap_or(held.key);
-        let quotients = power(self.k.saturating_sub(b));
-        Entry {
-            slot: times(permuted, quotients),
-            quotient: rest(permuted, quotients),
-            value: held.value,
-        }
+    /// What is held of a key number, under a value number.
+    fn held(&self, key: u64, value: u64) -> Held {
+        let mixed = self.mixed.get(key as usize).copied().unwrap_or(key);
+        Held { key, value, mixed }
+    }
+
+    /// How many quotients a slot has, at b.
+    fn quotients(&self, b: u32) -> u64 {
+        power(self.k.saturating_sub(b))
     }
 
     /// How many keys stand in the group of one, at b, in a table of a kind.
     fn load(&self, held: Held, kind: Kind, b: u32) -> u64 {
-        let group = |e: Held| times(self.entry(e, b).slot, kind.group());
-        let own = group(held);
-        self.list.iter().filter(|e| group(**e) == own).count() as u64
-    }
-
-    /// The value of a key number.
-    fn value(&self, key: u64) -> Option<u64> {
-        self.list.iter().find(|e| e.key == key).map(|e| e.value)
+        let size = self.quotients(b).saturating_mul(kind.group());
+        load(&self.list, size, held.mixed)
     }
 
     fn look_up(&self, key: u64) -> Result<u64, TableRefusal> {
         if key >= power(self.k) {
             return Err(TableRefusal::OutOfRange);
         }
-        self.value(key).ok_or(TableRefusal::Absent)
+        value(&self.list, key).ok_or(TableRefusal::Absent)
     }
 
     /// What stands against one more key.
@@ -90,7 +84,7 @@ impl Mirror {
         if held.value >= power(self.v) || held.key >= power(self.k) {
             return Err(TableRefusal::OutOfRange);
         }
-        if self.value(held.key).is_some() {
+        if value(&self.list, held.key).is_some() {
             return Err(TableRefusal::Held);
         }
         let kind = self.room(self.side).kind;
@@ -104,10 +98,8 @@ impl Mirror {
     fn take(&mut self, run: Run) -> Result<Result<(), RunRefusal>, AllocError> {
         let before = self.list.len();
         for place in 0..run.n {
-            let held = Held {
-                key: run.m.saturating_add(place),
-                value: run.value,
-            };
+            let held = self.held(run.m.saturating_add(place), run.value);
+            // No `?`: what was taken is forgotten first, and memory that runs out is another error.
             if let Err(why) = self.against(held) {
                 self.list.truncate(before);
                 return Ok(Err(Refusal::Table(why).at(place)));
@@ -130,10 +122,10 @@ impl Mirror {
 
     /// Cancels a run.
     fn cancel(&mut self, run: Run) -> Result<(), RunRefusal> {
-        for place in 0..run.n {
-            self.against_cancel(run.m.saturating_add(place), run.value)
-                .map_err(|why| why.at(place))?;
-        }
+        (0..run.n).try_for_each(|place| {
+            let found = self.against_cancel(run.m.saturating_add(place), run.value);
+            found.map_err(|why| why.at(place))
+        })?;
         self.list
             .retain(|e| e.key < run.m || e.key - run.m >= run.n);
         Ok(())
@@ -141,16 +133,18 @@ impl Mirror {
 
     /// What is held, slots upwards.
     fn walk(&self) -> Result<Vec<Held>, AllocError> {
+        let quotients = self.quotients(self.b);
         let mut walk = self.list.clone()?;
-        walk.sort_by_key(|e| self.entry(*e, self.b).slot)?;
+        walk.sort_by_key(|e| e.entry(quotients).slot)?;
         Ok(walk)
     }
 
     /// The entries of the table in use, slots upwards.
     pub fn entries(&self, heap: Global) -> Result<Vec<Entry>, AllocError> {
+        let quotients = self.quotients(self.b);
         self.walk()?
             .iter()
-            .map(|e| self.entry(*e, self.b))
+            .map(|e| e.entry(quotients))
             .collect(heap)
     }
 
@@ -188,7 +182,10 @@ impl Mirror {
             Operation::Take(run) => Answer::Run(self.take(run)?),
             Operation::Cancel(run) => Answer::Run(self.cancel(run)),
             Operation::LookUp(key) => Answer::Value(self.look_up(key)),
-            Operation::Entry(i) => Answer::Entry(self.walk()?.get(i as usize).copied()),
+            Operation::Entry(i) => {
+                let walk = self.walk()?;
+                Answer::Entry(walk.get(i as usize).map(|e| (e.key, e.value)))
+            }
             Operation::Enlarge => Answer::Moved(self.enlarge()),
         })
     }

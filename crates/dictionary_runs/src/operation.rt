@@ -11,13 +11,6 @@ pub const WIDTH: u32 = 8;
 
 pub const VALUES: u32 = 5;
 
-/// A key number and its value number.
-#[derive(Clone, Copy, PartialEq, Eq, Debug)]
-pub struct Held {
-    pub key: u64,
-    pub value: u64,
-}
-
 /// The n key numbers from m on, under a value number.
 #[derive(Clone, Copy, PartialEq, Eq, Debug)]
 pub struct Run {
@@ -44,7 +37,8 @@ pub enum Operation {
 pub enum Answer {
     Run(Result<(), RunRefusal>),
     Value(Result<u64, TableRefusal>),
-    Entry(Option<Held>),
+    /// The key number and the value number there.
+    Entry(Option<(u64, u64)>),
     Moved(Result<(), Refusal>),
 }
 

@@ -2,11 +2,11 @@
 //! words of both tables, are compared with a list and formulas that are kept here.
 
 use crate::calls::InUse;
-use crate::compared::Compared;
 use crate::mirror::{Mirror, Room, Side};
 use crate::mixed::{added_up, folded};
 use crate::operation::{Operation, VALUES, WIDTH};
 use expected::noise::Noise;
+use expected::shown::Shown;
 use packed::PackedTable;
 use permutation::{Affine, Chain, Identity, Permutation, XorShift};
 use plain::PlainTable;
@@ -19,14 +19,14 @@ const STEPS: u64 = 600;
 
 /// A dictionary over two tables, beside the list.
 #[derive(Drop)]
-struct Pair<'a, P: Permutation, A: Compared, B: Compared> {
+struct Pair<'a, P: Permutation, A: Shown, B: Shown> {
     permutation: &'a P,
     first: &'a mut A,
     second: &'a mut B,
     mirror: Mirror,
 }
 
-impl<'a, P: Permutation, A: Compared, B: Compared> Pair<'a, P, A, B> {
+impl<'a, P: Permutation, A: Shown, B: Shown> Pair<'a, P, A, B> {
     /// Puts an operation to whichever table is in use.
     fn right(&mut self, operation: Operation) -> io::Result<bool> {
         let Some(shape) = Shape::new(self.mirror.k, self.mirror.v, self.mirror.b) else {
@@ -92,7 +92,7 @@ struct Setting<'a, P: Permutation> {
 
 impl<'a, P: Permutation> Setting<'a, P> {
     /// A list of operations over two tables, of which each has a largest b for its words. It begins in the first of them with 2^b slots.
-    fn pair<A: Compared, B: Compared>(
+    fn pair<A: Shown, B: Shown>(
         &self,
         rt: &HostRuntime,
         what: &str,

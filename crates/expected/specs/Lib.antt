@@ -1,4 +1,5 @@
 pub mod Blocks
+pub mod Held
 pub mod Kinds
 pub mod Noise
 pub mod Refusals

@@ -4,7 +4,7 @@ ghost use Rattle.expected.specs.Kinds.{block, word};
 
 use crate::kind::Kind;
 use crate::numbers::area;
-use crate::packed::packed_word;
+use crate::packed_words::packed_word;
 
 /// An entry of a table: its slot, and what stands there.
 #[derive(Clone, Copy, PartialEq, Eq, Debug)]

@@ -2,10 +2,12 @@
 //! numbers that look random, arithmetic that cannot fail, and the words of both kinds of table, a bit at a time.
 #![tactic(auto)]
 
+pub mod held;
 pub mod kind;
 pub mod layout;
 pub mod noise;
 pub mod numbers;
-mod packed;
+mod packed_words;
 pub mod refusals;
+pub mod shown;
 pub mod words;

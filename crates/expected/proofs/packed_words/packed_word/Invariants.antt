@@ -1,6 +1,6 @@
 use Rattle.std.proofs.Common.{◌≡◌, ◌+◌, ◌*◌, ◌^◌, ◌<◌}
 use Rattle.expected.specs.Blocks.{number, packed_bit}
-use Rattle.expected.proofs.packed.packed_word.Given as goal
+use Rattle.expected.proofs.packed_words.packed_word.Given as goal
 
 -- the ones so far are those of the bits below i, and there is room for the rest
 abbrev pub invariant-loop-i : goal.invariant-loop-i
