@@ -3,9 +3,10 @@
 
 use std::io;
 
-mod layout;
+mod calls;
 mod mirror;
-mod noise;
+mod mixed;
+mod operation;
 mod operations;
 
 fn main(rt: HostRuntime) -> io::Result<()> {

@@ -1,251 +1,193 @@
+//! What a dictionary should answer: a list of what is held, in order of arrival, and formulas for where it stands.
+use crate::operation::{Answer, Operation};
+use dictionary::Run;
+use expected::held::{Held, load, value};
+use expected::kind::Kind;
+use expected::layout::{Entry, Layout};
+use expected::numbers::power;
+use model::refusal::Refusal;
+use model::run_refusal::RunRefusal;
 use std::alloc::{AllocError, Global};
+use table::refusal::TableRefusal;
 
-/// What is known here of a table: slots to a group, entries that a group may hold, and the largest b for its words.
-#[derive(Clone, Copy)]
-pub struct Kind {
-    pub group: u64,
-    pub limit: u64,
+/// What is known here of a table: its kind, and the largest b for its words.
+#[derive(Clone, Copy, PartialEq, Eq, Debug)]
+pub struct Room {
+    pub kind: Kind,
     pub most: u32,
 }
 
-/// A key number and its value number.
-#[derive(Clone, Copy)]
-pub struct Held {
-    pub key: u64,
-    pub value: u64,
+/// One of the two tables.
+#[derive(Clone, Copy, PartialEq, Eq, Debug)]
+pub enum Side {
+    First,
+    Second,
 }
 
-/// The number of a refusal and its place in the run; 0 and 0 where it was done.
-#[derive(Clone, Copy)]
-pub struct Outcome {
-    pub place: u64,
-    pub number: u64,
+impl Side {
+    /// The other one.
+    pub fn other(self) -> Side {
+        match self {
+            Side::First => Side::Second,
+            Side::Second => Side::First,
+        }
+    }
 }
 
-/// A list of what is held, in order of arrival, and formulas for where it stands.
+/// A dictionary that is only a list, and the permuted number of each key number.
 #[derive(Drop)]
 pub struct Mirror {
     pub k: u32,
     pub v: u32,
     pub b: u32,
-    pub on_second: bool,
-    pub first: Kind,
-    pub second: Kind,
+    pub side: Side,
+    pub first: Room,
+    pub second: Room,
     pub mixed: Vec<u64>,
     pub list: Vec<Held>,
 }
 
-/// 2 to the n.
-pub fn power(n: u32) -> u64 {
-    let mut p = 1u64;
-    for _ in 0..n {
-        p = p.saturating_mul(2);
-    }
-    p
-}
-
-/// How often d goes into x; 0 where d is 0.
-pub fn times(x: u64, d: u64) -> u64 {
-    if d == 0 { 0 } else { x / d }
-}
-
-/// What is left of x then.
-pub fn rest(x: u64, d: u64) -> u64 {
-    if d == 0 { x } else { x % d }
-}
-
 impl Mirror {
-    pub fn new(
-        heap: Global,
-        k: u32,
-        v: u32,
-        b: u32,
-        first: Kind,
-        second: Kind,
-        mixed: Vec<u64>,
-    ) -> Mirror {
-        Mirror {
-            k,
-            v,
-            b,
-            on_second: false,
-            first,
-            second,
-            mixed,
-            list: Vec::new(heap),
+    /// A table.
+    fn room(&self, side: Side) -> Room {
+        match side {
+            Side::First => self.first,
+            Side::Second => self.second,
         }
     }
 
-    /// The table in use.
-    pub fn kind(&self) -> Kind {
-        if self.on_second {
-            self.second
-        } else {
-            self.first
-        }
+    /// What is held of a key number, under a value number.
+    fn held(&self, key: u64, value: u64) -> Held {
+        let mixed = self.mixed.get(key as usize).copied().unwrap_or(key);
+        Held { key, value, mixed }
     }
 
-    /// The table not in use.
-    fn other(&self) -> Kind {
-        if self.on_second {
-            self.first
-        } else {
-            self.second
-        }
+    /// How many quotients a slot has, at b.
+    fn quotients(&self, b: u32) -> u64 {
+        power(self.k.saturating_sub(b))
     }
 
-    /// The permuted number of a key number.
-    fn permuted(&self, key: u64) -> u64 {
-        if key < self.mixed.len() as u64 {
-            self.mixed[key as usize]
-        } else {
-            key
-        }
+    /// How many keys stand in the group of one, at b, in a table of a kind.
+    fn load(&self, held: Held, kind: Kind, b: u32) -> u64 {
+        let size = self.quotients(b).saturating_mul(kind.group());
+        load(&self.list, size, held.mixed)
     }
 
-    /// The slot of a key number among 2^b.
-    pub fn slot(&self, key: u64, b: u32) -> u64 {
-        times(self.permuted(key), power(self.k.saturating_sub(b)))
-    }
-
-    /// What is stored of it there.
-    pub fn quotient(&self, key: u64, b: u32) -> u64 {
-        rest(self.permuted(key), power(self.k.saturating_sub(b)))
-    }
-
-    /// How many keys stand in a group, at b.
-    fn load(&self, group: u64, size: u64, b: u32) -> u64 {
-        let mut count = 0u64;
-        for e in self.list.iter() {
-            if times(self.slot(e.key, b), size) == group {
-                count = count.saturating_add(1);
-            }
-        }
-        count
-    }
-
-    /// The value of a key number, or 1000 and the number of a refusal.
-    pub fn look_up(&self, key: u64) -> u64 {
-        let mut there = 1005u64;
+    fn look_up(&self, key: u64) -> Result<u64, TableRefusal> {
         if key >= power(self.k) {
-            there = 1002;
+            return Err(TableRefusal::OutOfRange);
         }
-        for e in self.list.iter() {
-            if e.key == key {
-                there = e.value;
-            }
-        }
-        there
+        value(&self.list, key).ok_or(TableRefusal::Absent)
     }
 
     /// What stands against one more key.
-    fn against(&self, key: u64, value: u64) -> u64 {
-        if value >= power(self.v) || key >= power(self.k) {
-            return 2;
+    fn against(&self, held: Held) -> Result<(), TableRefusal> {
+        if held.value >= power(self.v) || held.key >= power(self.k) {
+            return Err(TableRefusal::OutOfRange);
         }
-        if self.look_up(key) < 1000 {
-            return 3;
+        if value(&self.list, held.key).is_some() {
+            return Err(TableRefusal::Held);
         }
-        let kind = self.kind();
-        let group = times(self.slot(key, self.b), kind.group);
-        if self.load(group, kind.group, self.b) >= kind.limit {
-            4
-        } else {
-            0
+        let kind = self.room(self.side).kind;
+        if self.load(held, kind, self.b) >= kind.limit() {
+            return Err(TableRefusal::Full);
         }
+        Ok(())
     }
 
     /// Takes a run one key after the other, and forgets it all at the first refusal.
-    pub fn take(&mut self, m: u64, n: u64, value: u64) -> Result<Outcome, AllocError> {
+    fn take(&mut self, run: Run) -> Result<Result<(), RunRefusal>, AllocError> {
         let before = self.list.len();
-        for i in 0..n {
-            let key = m.saturating_add(i);
-            let number = self.against(key, value);
-            if number != 0 {
+        for place in 0..run.length {
+            let held = self.held(run.first.saturating_add(place), run.value);
+            // No `?`: what was taken is forgotten first, and memory that runs out is another error.
+            if let Err(why) = self.against(held) {
                 self.list.truncate(before);
-                return Ok(Outcome { place: i, number });
+                return Ok(Err(Refusal::Table(why).at(place)));
             }
-            self.list.push(Held { key, value })?;
+            self.list.push(held)?;
         }
-        Ok(Outcome {
-            place: 0,
-            number: 0,
-        })
+        Ok(Ok(()))
     }
 
     /// What stands against cancelling one key.
-    fn against_cancel(&self, key: u64, value: u64) -> u64 {
-        if value >= power(self.v) || key >= power(self.k) {
-            return 2;
+    fn against_cancel(&self, key: u64, value: u64) -> Result<(), Refusal> {
+        if value >= power(self.v) {
+            return Err(Refusal::Table(TableRefusal::OutOfRange));
         }
-        let there = self.look_up(key);
-        if there >= 1000 {
-            return 5;
+        if self.look_up(key)? != value {
+            return Err(Refusal::OtherValue);
         }
-        if there == value { 0 } else { 17 }
+        Ok(())
     }
 
     /// Cancels a run.
-    pub fn cancel(&mut self, m: u64, n: u64, value: u64) -> Outcome {
-        for i in 0..n {
-            let number = self.against_cancel(m.saturating_add(i), value);
-            if number != 0 {
-                return Outcome { place: i, number };
-            }
-        }
-        for i in 0..n {
-            self.forget(m.saturating_add(i));
-        }
-        Outcome {
-            place: 0,
-            number: 0,
+    fn cancel(&mut self, run: Run) -> Result<(), RunRefusal> {
+        (0..run.length).try_for_each(|place| {
+            let found = self.against_cancel(run.first.saturating_add(place), run.value);
+            found.map_err(|why| why.at(place))
+        })?;
+        self.list
+            .retain(|e| e.key < run.first || e.key - run.first >= run.length);
+        Ok(())
+    }
+
+    /// What is held, slots upwards.
+    fn walk(&self) -> Result<Vec<Held>, AllocError> {
+        let quotients = self.quotients(self.b);
+        let mut walk = self.list.clone()?;
+        walk.sort_by_key(|e| e.entry(quotients).slot)?;
+        Ok(walk)
+    }
+
+    /// The entries of the table in use, slots upwards.
+    pub fn entries(&self, heap: Global) -> Result<Vec<Entry>, AllocError> {
+        let quotients = self.quotients(self.b);
+        self.walk()?
+            .iter()
+            .map(|e| e.entry(quotients))
+            .collect(heap)
+    }
+
+    /// How the table in use stands in its words.
+    pub fn layout(&self) -> Layout {
+        Layout {
+            kind: self.room(self.side).kind,
+            quotient: self.k.saturating_sub(self.b),
+            value: self.v,
         }
     }
 
-    /// One key leaves the list.
-    fn forget(&mut self, key: u64) {
-        for i in 0..self.list.len() {
-            if self.list[i].key == key {
-                self.list.remove(i);
-                return;
-            }
-        }
-    }
-
-    /// The entry at a place of the walk, slots upwards; 1000 and 1000 where there is none.
-    pub fn entry(&self, i: u64) -> Held {
-        let mut seen = 0u64;
-        for slot in 0..power(self.b) {
-            for e in self.list.iter() {
-                if self.slot(e.key, self.b) == slot {
-                    if seen == i {
-                        return *e;
-                    }
-                    seen = seen.saturating_add(1);
-                }
-            }
-        }
-        Held {
-            key: 1000,
-            value: 1000,
-        }
-    }
-
-    /// Changes to the other table with one more bit, and gives the number of a refusal or 0.
-    pub fn enlarge(&mut self) -> u64 {
-        let other = self.other();
+    /// Changes to the other table with one more bit.
+    fn enlarge(&mut self) -> Result<(), Refusal> {
+        let Room { kind, most } = self.room(self.side.other());
         let b = self.b.saturating_add(1);
-        if b > other.most || b >= self.k {
-            return 6;
+        if b > most || b >= self.k {
+            return Err(Refusal::Table(TableRefusal::DoesNotFit));
         }
-        for e in self.list.iter() {
-            let group = times(self.slot(e.key, b), other.group);
-            if self.load(group, other.group, b) > other.limit {
-                return 4;
-            }
+        if self
+            .list
+            .iter()
+            .any(|e| self.load(*e, kind, b) > kind.limit())
+        {
+            return Err(Refusal::Table(TableRefusal::Full));
         }
         self.b = b;
-        self.on_second = !self.on_second;
-        0
+        self.side = self.side.other();
+        Ok(())
+    }
+
+    /// Any operation.
+    pub fn put(&mut self, operation: Operation) -> Result<Answer, AllocError> {
+        Ok(match operation {
+            Operation::Take(run) => Answer::Run(self.take(run)?),
+            Operation::Cancel(run) => Answer::Run(self.cancel(run)),
+            Operation::LookUp(key) => Answer::Value(self.look_up(key)),
+            Operation::Entry(i) => {
+                let walk = self.walk()?;
+                Answer::Entry(walk.get(i as usize).map(|e| (e.key, e.value)))
+            }
+            Operation::Enlarge => Answer::Moved(self.enlarge()),
+        })
     }
 }

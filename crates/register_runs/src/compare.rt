@@ -1,75 +1,64 @@
-//! One call to a register, compared with what the list answers.
-use crate::layout::expected;
-use crate::machine::{Machine, alike};
-use crate::mirror::Mirror;
+//! A register beside the list that it is compared with.
+use crate::machine::Machine;
+use crate::mirror::{Mirror, Parts};
+use crate::report::{Report, is};
 use model::answer::Answer;
 use model::call::Call;
+use register::Side;
 use std::io;
-use tally::tally::Tally;
 
-/// Prints an answer.
-pub fn tell(rt: &HostRuntime, what: &str, answer: Answer<u64>) -> io::Result<()> {
-    match answer {
-        Answer::Number(n) => println!(rt; "  {what}: {n}"),
-        Answer::Value(w) => println!(rt; "  {what}: the value {w}"),
-        Answer::Entry(m, w) => println!(rt; "  {what}: the key {m} and the value {w}"),
-        Answer::Refused(e) => println!(rt; "  {what}: refused with {}", e.number()),
-        Answer::RefusedAt(e) => {
-            let place = e.place;
-            println!(rt; "  {what}: refused with {} at {place}", e.why.number())
+/// A register, and the list.
+#[derive(Drop)]
+pub struct Pair<M: Machine + Drop> {
+    machine: M,
+    pub mirror: Mirror,
+}
+
+impl<M: Machine + Drop> Pair<M> {
+    /// A register of these parts, which is closed.
+    pub fn new(report: &Report<'_>, machine: M, parts: Parts) -> Pair<M> {
+        let mirror = Mirror::new(report.rt.alloc(), parts);
+        Pair { machine, mirror }
+    }
+
+    /// Whether a table has the words of the list where it is in use, and zeros where it is not.
+    fn has_words(&self, report: &Report<'_>, side: Side) -> io::Result<bool> {
+        let words = self.machine.words(side);
+        let store = self.mirror.store(side);
+        if words.len() as u64 != store.words {
+            return Ok(false);
         }
+        let used = self.mirror.opened.filter(|opened| opened.side == side);
+        let Some(opened) = used else {
+            return Ok(words.iter().all(|word| *word == 0));
+        };
+        let Parts { keys, values, .. } = self.mirror.parts;
+        let entries = self.mirror.entries(report.rt.alloc(), opened.b)?;
+        let layout = store.layout(keys.width(), values.width(), opened.b);
+        Ok(layout.has_words(&entries, words))
     }
-}
 
-/// Counts whether an answer is the wanted one, and prints both where it is not.
-pub fn expect(
-    rt: &HostRuntime,
-    tally: &mut Tally,
-    what: &str,
-    got: Answer<u64>,
-    want: Answer<u64>,
-) -> io::Result<()> {
-    let right = alike(got, want);
-    tally.count(right);
-    if !right {
-        tell(rt, what, got)?;
-        tell(rt, "  wanted", want)?;
+    /// Whether both tables have the words of the list.
+    pub fn same_words(&self, report: &Report<'_>) -> io::Result<bool> {
+        Ok(self.has_words(report, Side::First)? && self.has_words(report, Side::Second)?)
     }
-    Ok(())
-}
 
-/// Whether both tables have the words of the list.
-pub fn same_words<M: Machine>(rt: &HostRuntime, machine: &M, mirror: &Mirror) -> io::Result<bool> {
-    let first = expected(rt.alloc(), mirror, false)?;
-    let second = expected(rt.alloc(), mirror, true)?;
-    Ok(machine.first_words() == first.as_slice() && machine.second_words() == second.as_slice())
-}
-
-/// Puts a call to a register and to the list, and counts whether the answers are alike and both tables have the list's words.
-pub fn compare<M: Machine>(
-    rt: &HostRuntime,
-    tally: &mut Tally,
-    machine: &mut M,
-    mirror: &mut Mirror,
-    call: Call<u64, u64>,
-) -> io::Result<Answer<u64>> {
-    let got = machine.ask(call);
-    let want = mirror.put(call)?;
-    let words = same_words(rt, machine, mirror)?;
-    let right = alike(got, want) && words;
-    tally.count(right);
-    if !right && tally.wrong == 1 {
-        tell(rt, "answered", got)?;
-        tell(rt, "wanted", want)?;
-        println!(rt; "  words as wanted: {words}")?;
+    /// Puts a call to both, and counts whether the answers are alike and both tables have the list's words.
+    pub fn put(
+        &mut self,
+        report: &mut Report<'_>,
+        call: Call<u64, u64>,
+    ) -> io::Result<Answer<u64>> {
+        let got = self.machine.ask(call);
+        let want = self.mirror.put(call)?;
+        let words = self.same_words(report)?;
+        let right = is(got, want) && words;
+        report.part.count(right);
+        if !right && report.part.wrong == 1 {
+            report.tell("answered", got)?;
+            report.tell("wanted", want)?;
+            println!(report.rt; "  words as wanted: {words}")?;
+        }
+        Ok(got)
     }
-    Ok(got)
-}
-
-/// Prints the counts of a group of cases, and adds them to those of all.
-pub fn ended(rt: &HostRuntime, what: &str, part: &Tally, total: &mut Tally) -> io::Result<()> {
-    total.cases = total.cases.saturating_add(part.cases);
-    total.wrong = total.wrong.saturating_add(part.wrong);
-    total.first = total.first.or(part.first);
-    part.show(rt, what)
 }

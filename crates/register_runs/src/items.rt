@@ -2,7 +2,7 @@
 use coding::{Booking, Card, Loan, Night};
 
 /// The sorts of items.
-#[derive(Clone, Copy)]
+#[derive(Clone, Copy, PartialEq, Eq, Debug)]
 pub enum Sort {
     Nights,
     Cards,

@@ -1,19 +1,24 @@
 //! Long lists of calls to registers over every pair of tables and every permutation.
-use crate::compare::{compare, ended};
+ghost use Rattle.std.specs.Prelude.{◌≡◌};
+
+use crate::compare::Pair;
 use crate::items::{Numbered, Spelled};
-use crate::machine::{Machine, Shown};
+use crate::machine::{Machine, Shown, store};
 use crate::mirror::{Mirror, Parts};
-use crate::noise::Noise;
-use crate::script::some_call;
-use crate::settings::{CARDS, NIGHTS, Setting, chains, packed_table, plain_table};
+use crate::report::Report;
+use crate::rules::Mix;
+use crate::script::{Tide, some_call};
+use crate::settings::{CARDS, NIGHTS, SAME, Setting, chain, packed_table, plain_table};
 use coding::Coding;
+use expected::noise::Noise;
 use model::answer::Answer;
 use model::call::Call;
-use permutation::{Affine, Identity, Permutation, XorShift};
+use model::refusal::Refusal;
+use model::run_refusal::RunRefusal;
+use permutation::{Affine, Identity, Permutation, SetUpRefusal, XorShift};
 use register::Register;
 use std::io;
-use table::table::Table;
-use tally::tally::Tally;
+use table::refusal::TableRefusal;
 
 /// How many calls a list has.
 const CALLS: u64 = 3200;
@@ -44,22 +49,27 @@ impl Met {
             (Call::Enlarge, Answer::Number(_)) => {
                 self.moved = true;
                 self.moves = self.moves.saturating_add(1);
-                if before {
-                    self.twice = self.twice.saturating_add(1);
-                }
+                self.twice = self.twice.saturating_add(u64::from(before));
             }
-            (Call::Enlarge, Answer::Refused(e)) => match e.number() {
-                4 => self.tight = self.tight.saturating_add(1),
-                6 => self.unfit = self.unfit.saturating_add(1),
-                _ => {}
-            },
-            (Call::Take(_, _, _), Answer::RefusedAt(e)) => {
-                if e.why.number() == 4 {
-                    self.full = self.full.saturating_add(1);
-                }
+            (Call::Enlarge, Answer::Refused(Refusal::Table(TableRefusal::Full))) => {
+                self.tight = self.tight.saturating_add(1)
             }
+            (Call::Enlarge, Answer::Refused(Refusal::Table(TableRefusal::DoesNotFit))) => {
+                self.unfit = self.unfit.saturating_add(1)
+            }
+            _ if is_full(call, answer) => self.full = self.full.saturating_add(1),
             _ => {}
         }
+    }
+}
+
+/// Whether it is a take that found no room.
+pub fn is_full(call: Call<u64, u64>, answer: Answer<u64>) -> bool {
+    match (call, answer) {
+        (Call::Take(_, _, _), Answer::RefusedAt(RunRefusal { why, .. })) => {
+            why == Refusal::Table(TableRefusal::Full)
+        }
+        _ => false,
     }
 }
 
@@ -70,140 +80,143 @@ fn call_at(i: u64, b: u32, noise: &mut Noise, mirror: &Mirror) -> Call<u64, u64>
     }
     match i % TIDE {
         195 | 497 | 498 => Call::Enlarge,
-        place => some_call(noise, mirror, place < RISE),
+        place if place < RISE => some_call(noise, mirror, Tide::Rising),
+        _ => some_call(noise, mirror, Tide::Falling),
     }
 }
 
-/// A list of calls to one register, closed at first and opened with 2^b slots.
-fn run_list<M: Machine + Drop>(
-    rt: &HostRuntime,
-    what: &str,
-    machine: M,
-    parts: Parts,
-    b: u32,
-    total: &mut Tally,
-) -> io::Result<()> {
-    let mut machine = machine;
-    let mut mirror = Mirror::new(rt.alloc(), parts);
-    let mut tally = Tally::new();
-    let mut noise = Noise::new(total.cases);
-    let mut met = Met::default();
-    for i in 0..CALLS {
-        let call = call_at(i, b, &mut noise, &mirror);
-        let answer = compare(rt, &mut tally, &mut machine, &mut mirror, call)?;
-        met.note(call, answer);
+impl<M: Machine + Drop> Pair<M> {
+    /// A list of calls to a register that is closed, opened with 2^b slots.
+    fn list(mut self, report: &mut Report<'_>, what: &str, b: u32) -> io::Result<()> {
+        let mut noise = Noise::new(report.cases());
+        let mut met = Met::default();
+        for i in 0..CALLS {
+            let call = call_at(i, b, &mut noise, &self.mirror);
+            let answer = self.put(report, call)?;
+            met.note(call, answer);
+        }
+        report.ended(what)?;
+        let held = self.mirror.list.len();
+        let b = self.mirror.opened.map_or(0, |opened| opened.b);
+        println!(report.rt;
+            "  {held} held in 2^{b} slots after {} moves, {} of them right after another",
+            met.moves, met.twice
+        )?;
+        println!(report.rt;
+            "  no room for {} takes and {} moves, no fit for {}",
+            met.full, met.tight, met.unfit
+        )
     }
-    ended(rt, what, &tally, total)?;
-    let held = mirror.list.len();
-    let b = mirror.b;
-    println!(rt;
-        "  {held} held in 2^{b} slots after {} moves, {} of them right after another",
-        met.moves, met.twice
-    )?;
-    println!(rt;
-        "  no room for {} takes and {} moves, no fit for {}",
-        met.full, met.tight, met.unfit
-    )
 }
 
-/// A list of calls to a register over two tables.
-fn pair<
+impl<
     T: Spelled + Copy,
     U: Spelled + Numbered + Copy,
     K: Coding<Item = T> + Copy,
     V: Coding<Item = U> + Copy,
-    P: Permutation + Drop,
-    A: Table + Shown + Drop,
-    B: Table + Shown + Drop,
->(
-    rt: &HostRuntime,
-    what: &str,
-    setting: Setting<K, V>,
-    permutation: P,
-    first: A,
-    second: B,
-    b: u32,
-    total: &mut Tally,
-) -> io::Result<()> {
-    let parts = Parts {
-        keys: setting.key_sort,
-        values: setting.value_sort,
-        mix: setting.mix,
-        first: first.kind(),
-        second: second.kind(),
-    };
-    let machine = Register::assemble(register::Parts {
-        keys: setting.keys,
-        values: setting.values,
-        permutation,
-        first,
-        second,
-    });
-    run_list(rt, what, machine, parts, b, total)
-}
+> Setting<K, V> {
+    /// The same codings under another formula.
+    fn under(self, mix: Mix) -> Setting<K, V> {
+        Setting { mix, ..self }
+    }
 
-/// Two packed tables, two plain ones, and one of each in both orders; a permutation for each.
-fn all_pairs<
-    T: Spelled + Copy,
-    U: Spelled + Numbered + Copy,
-    K: Coding<Item = T> + Copy,
-    V: Coding<Item = U> + Copy,
-    P: Permutation + Drop,
->(
-    rt: &HostRuntime,
-    setting: Setting<K, V>,
-    permutations: (P, P, P, P),
-    total: &mut Tally,
-) -> io::Result<()> {
-    let (p, q, r, s) = permutations;
-    let one = packed_table(rt, 150)?;
-    let other = packed_table(rt, 290)?;
-    pair(rt, "packed tables", setting, p, one, other, 4, total)?;
-    let one = plain_table(rt, 520)?;
-    let other = plain_table(rt, 1030)?;
-    pair(rt, "plain tables", setting, q, one, other, 0, total)?;
-    let one = packed_table(rt, 150)?;
-    let other = plain_table(rt, 2050)?;
-    pair(rt, "packed, then plain", setting, r, one, other, 4, total)?;
-    let one = plain_table(rt, 520)?;
-    let other = packed_table(rt, 290)?;
-    pair(rt, "plain, then packed", setting, s, one, other, 3, total)
+    /// A list of calls to a register over two tables.
+    fn pair<P: Permutation + Drop, A: Shown + Drop, B: Shown + Drop>(
+        self,
+        report: &mut Report<'_>,
+        what: &str,
+        permutation: Result<P, SetUpRefusal>,
+        first: A,
+        second: B,
+        b: u32,
+    ) -> io::Result<()> {
+        let Ok(permutation) = permutation else {
+            return report.unmade();
+        };
+        let parts = Parts {
+            keys: self.key_sort,
+            values: self.value_sort,
+            mix: self.mix,
+            first: store(&first),
+            second: store(&second),
+        };
+        let machine = Register::assemble(register::Parts {
+            keys: self.keys,
+            values: self.values,
+            permutation,
+            first,
+            second,
+        });
+        Pair::new(report, machine, parts).list(report, what, b)
+    }
+
+    /// Two packed tables, two plain ones, and one of each in both orders; a permutation is made for each.
+    fn all_pairs<P: Permutation + Drop, F: Fn() -> Result<P, SetUpRefusal>>(
+        self,
+        report: &mut Report<'_>,
+        what: &str,
+        made: F,
+    ) -> io::Result<()>
+        requires { F.IsAlwaysCallable made }
+    {
+        let rt = report.rt;
+        println!(rt; "{what}")?;
+        let one = packed_table(rt, 150)?;
+        let other = packed_table(rt, 290)?;
+        self.pair(report, "packed tables", made(), one, other, 4)?;
+        let one = plain_table(rt, 520)?;
+        let other = plain_table(rt, 1030)?;
+        self.pair(report, "plain tables", made(), one, other, 0)?;
+        let one = packed_table(rt, 150)?;
+        let other = plain_table(rt, 2050)?;
+        self.pair(report, "packed, then plain", made(), one, other, 4)?;
+        let one = plain_table(rt, 520)?;
+        let other = packed_table(rt, 290)?;
+        self.pair(report, "plain, then packed", made(), one, other, 3)
+    }
 }
 
 /// The lists of nights under a permutation of each kind.
-fn run_nights(rt: &HostRuntime, total: &mut Tally) -> io::Result<()> {
-    if let Ok(p) = Identity::new(20) {
-        println!(rt; "nights, identity")?;
-        all_pairs(rt, NIGHTS, (p, p, p, p), total)?;
-    }
-    let mut setting = NIGHTS;
-    setting.mix.multiplier = 660_677;
-    setting.mix.increment = 54_321;
-    if let Ok(p) = Affine::new(20, 660_677, 54_321) {
-        println!(rt; "nights, affine")?;
-        all_pairs(rt, setting, (p, p, p, p), total)?;
-    }
-    setting.mix.shift = 9;
-    if let Ok(all) = chains(setting.mix) {
-        println!(rt; "nights, affine and then xor-shift")?;
-        all_pairs(rt, setting, all, total)?;
-    }
-    let mut setting = NIGHTS;
-    setting.mix.shift = 3;
-    if let Ok(p) = XorShift::new(20, 3) {
-        println!(rt; "nights, xor-shift")?;
-        all_pairs(rt, setting, (p, p, p, p), total)?;
-    }
-    Ok(())
+fn run_nights(report: &mut Report<'_>) -> io::Result<()> {
+    NIGHTS.all_pairs(report, "nights, identity", || Identity::new(20))?;
+    let mix = Mix {
+        multiplier: 660_677,
+        increment: 54_321,
+        ..SAME
+    };
+    NIGHTS.under(mix).all_pairs(
+        report,
+        "nights, affine",
+        || Affine::new(20, 660_677, 54_321),
+    )?;
+    let mix = Mix {
+        shift: Some(9),
+        ..mix
+    };
+    NIGHTS
+        .under(mix)
+        .all_pairs(report, "nights, affine and then xor-shift", || chain(mix))?;
+    let mix = Mix {
+        shift: Some(3),
+        ..SAME
+    };
+    NIGHTS
+        .under(mix)
+        .all_pairs(report, "nights, xor-shift", || XorShift::new(20, 3))
 }
 
 /// Runs all of it.
-pub fn run(rt: &HostRuntime, total: &mut Tally) -> io::Result<()> {
-    run_nights(rt, total)?;
-    let mix = CARDS.mix;
-    if let Ok(p) = Affine::new(mix.width, mix.multiplier, mix.increment) {
-        println!(rt; "cards, affine")?;
-        all_pairs(rt, CARDS, (p, p, p, p), total)?;
-    }
-    Ok(())
+pub fn run(report: &mut Report<'_>) -> io::Result<()> {
+    run_nights(report)?;
+    let Mix {
+        width,
+        multiplier,
+        increment,
+        ..
+    } = CARDS.mix;
+    CARDS.all_pairs(
+        report,
+        "cards, affine",
+        || Affine::new(width, multiplier, increment),
+    )
 }

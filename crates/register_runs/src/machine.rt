@@ -1,45 +1,47 @@
 //! A register as the runs see it: calls and answers by numbers, and the words of its tables.
 use crate::items::{Numbered, Spelled};
-use crate::rules::Kind;
-use blocks::{PackedTable, PlainTable};
+use crate::rules::Store;
 use coding::Coding;
+use expected::kind::Kind;
 use model::answer::Answer;
 use model::call::Call;
+use blocks::{PackedTable, PlainTable};
 use permutation::Permutation;
-use register::Register;
+use register::{Register, Side};
 use table::table::Table;
 
 /// A table whose words can be looked at.
-pub trait Shown {
-    fn shown(&self) -> &[u64];
+pub trait Shown: Table {
+    fn kind() -> Kind;
 
-    /// What the formulas are told of it.
-    fn kind(&self) -> Kind;
+    fn shown(&self) -> &[u64];
 }
 
 impl Shown for PlainTable {
-    fn shown(&self) -> &[u64] {
-        self.words()
+    fn kind() -> Kind {
+        Kind::Plain
     }
 
-    fn kind(&self) -> Kind {
-        Kind {
-            packed: false,
-            words: self.words().len() as u64,
-        }
+    fn shown(&self) -> &[u64] {
+        self.words()
     }
 }
 
 impl Shown for PackedTable {
+    fn kind() -> Kind {
+        Kind::Packed
+    }
+
     fn shown(&self) -> &[u64] {
         self.words()
     }
+}
 
-    fn kind(&self) -> Kind {
-        Kind {
-            packed: true,
-            words: self.words().len() as u64,
-        }
+/// What the formulas are told of a table.
+pub fn store<T: Shown>(table: &T) -> Store {
+    Store {
+        kind: T::kind(),
+        words: table.shown().len() as u64,
     }
 }
 
@@ -67,28 +69,13 @@ pub fn numbered<U: Spelled + Numbered + Copy>(answer: Answer<U>) -> Answer<u64> 
     }
 }
 
-/// Whether two answers are one, with all that they carry.
-pub fn alike(a: Answer<u64>, b: Answer<u64>) -> bool {
-    match (a, b) {
-        (Answer::Number(x), Answer::Number(y)) => x == y,
-        (Answer::Value(x), Answer::Value(y)) => x == y,
-        (Answer::Entry(m, w), Answer::Entry(n, x)) => m == n && w == x,
-        (Answer::Refused(d), Answer::Refused(e)) => d == e,
-        (Answer::RefusedAt(d), Answer::RefusedAt(e)) => d == e,
-        _ => false,
-    }
-}
-
 /// What the runs ask of a register.
 pub trait Machine {
     /// Puts a call by numbers, and gives the answer by numbers.
     fn ask(&mut self, call: Call<u64, u64>) -> Answer<u64>;
 
-    /// The words of the first table.
-    fn first_words(&self) -> &[u64];
-
-    /// The words of the second table.
-    fn second_words(&self) -> &[u64];
+    /// The words of a table.
+    fn words(&self, side: Side) -> &[u64];
 }
 
 impl<
@@ -97,18 +84,17 @@ impl<
     K: Coding<Item = T>,
     V: Coding<Item = U>,
     P: Permutation,
-    A: Table + Shown,
-    B: Table + Shown,
+    A: Shown,
+    B: Shown,
 > Machine for Register<K, V, P, A, B> {
     fn ask(&mut self, call: Call<u64, u64>) -> Answer<u64> {
         numbered(self.put(spelled(call)))
     }
 
-    fn first_words(&self) -> &[u64] {
-        self.first().shown()
-    }
-
-    fn second_words(&self) -> &[u64] {
-        self.second().shown()
+    fn words(&self, side: Side) -> &[u64] {
+        match side {
+            Side::First => self.first().shown(),
+            Side::Second => self.second().shown(),
+        }
     }
 }

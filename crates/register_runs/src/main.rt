@@ -2,26 +2,25 @@
 //! after each call, are compared with a plain list and formulas.
 #![tactic(auto)]
 
+use report::Report;
 use std::io;
-use tally::tally::Tally;
 
 mod compare;
 mod items;
-mod layout;
 mod lists;
 mod machine;
 mod mirror;
-mod noise;
 mod replays;
+mod report;
 mod rules;
 mod script;
 mod settings;
 mod worked;
 
 fn main(rt: HostRuntime) -> io::Result<()> {
-    let mut total = Tally::new();
-    lists::run(&rt, &mut total)?;
-    replays::run(&rt, &mut total)?;
-    worked::run(&rt, &mut total)?;
-    total.show(&rt, "in all")
+    let mut report = Report::new(&rt);
+    lists::run(&mut report)?;
+    replays::run(&mut report)?;
+    worked::run(&mut report)?;
+    report.show("in all")
 }

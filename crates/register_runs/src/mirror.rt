@@ -1,38 +1,66 @@
 //! What a register should answer: a list of what is held, in order of arrival, and formulas for where it stands.
 use crate::items::Sort;
-use crate::rules::{Kind, Mix, power, times};
+use crate::rules::{Mix, Store};
+use expected::layout::Entry;
+use expected::numbers::{power, rest, times};
 use model::answer::Answer;
 use model::call::Call;
 use model::refusal::Refusal;
 use model::run_refusal::RunRefusal;
+use register::Side;
 use std::alloc::{AllocError, Global};
 use table::refusal::TableRefusal;
 
 /// A key number, its value number, and its permuted number.
-#[derive(Clone, Copy)]
+#[derive(Clone, Copy, PartialEq, Eq, Debug)]
 pub struct Held {
     pub key: u64,
     pub value: u64,
     pub mixed: u64,
 }
 
+/// The n key numbers from m on, and a value number.
+#[derive(Clone, Copy, PartialEq, Eq, Debug)]
+pub struct Run {
+    pub m: u64,
+    pub n: u64,
+    pub w: u64,
+}
+
+impl Run {
+    /// The call that takes it.
+    pub fn take(self) -> Call<u64, u64> {
+        Call::Take(self.m, self.n, self.w)
+    }
+
+    /// The call that cancels it.
+    pub fn cancel(self) -> Call<u64, u64> {
+        Call::Cancel(self.m, self.n, self.w)
+    }
+}
+
 /// What a register is made of.
-#[derive(Clone, Copy)]
+#[derive(Clone, Copy, PartialEq, Eq, Debug)]
 pub struct Parts {
     pub keys: Sort,
     pub values: Sort,
     pub mix: Mix,
-    pub first: Kind,
-    pub second: Kind,
+    pub first: Store,
+    pub second: Store,
+}
+
+/// Of an open register: the table in use, which has 2^b slots.
+#[derive(Clone, Copy, PartialEq, Eq, Debug)]
+pub struct Opened {
+    pub side: Side,
+    pub b: u32,
 }
 
 /// A register that is only a list.
 #[derive(Drop)]
 pub struct Mirror {
     pub parts: Parts,
-    pub opened: bool,
-    pub on_second: bool,
-    pub b: u32,
+    pub opened: Option<Opened>,
     pub list: Vec<Held>,
 }
 
@@ -46,212 +74,229 @@ pub fn by_table(why: TableRefusal) -> Answer<u64> {
     Answer::Refused(Refusal::Table(why))
 }
 
+/// The table that is not in use.
+fn other(side: Side) -> Side {
+    match side {
+        Side::First => Side::Second,
+        Side::Second => Side::First,
+    }
+}
+
+/// The answer to a call that is done or refused.
+fn answer(done: Result<Answer<u64>, Refusal>) -> Answer<u64> {
+    done.unwrap_or_else(Answer::Refused)
+}
+
+/// The answer to a run.
+fn run_answer(run: Run, done: Result<(), RunRefusal>) -> Answer<u64> {
+    done.map_or_else(Answer::RefusedAt, |_| Answer::Number(run.n))
+}
+
 impl Mirror {
     /// Closed.
     pub fn new(heap: Global, parts: Parts) -> Mirror {
         Mirror {
             parts,
-            opened: false,
-            on_second: false,
-            b: 0,
+            opened: None,
             list: Vec::new(heap),
         }
     }
 
     /// The first table or the second.
-    pub fn table(&self, second: bool) -> Kind {
-        if second {
-            self.parts.second
-        } else {
-            self.parts.first
+    pub fn store(&self, side: Side) -> Store {
+        match side {
+            Side::First => self.parts.first,
+            Side::Second => self.parts.second,
         }
     }
 
-    /// How many quotients a slot has, at b.
-    pub fn quotients(&self, b: u32) -> u64 {
-        power(self.parts.keys.width().saturating_sub(b))
+    /// The table in use, and its b; a closed register has none.
+    fn in_use(&self) -> Result<Opened, Refusal> {
+        self.opened.ok_or(Refusal::Closed)
     }
 
-    /// How many keys of the list stand in the group of a permuted number, at b.
-    fn load(&self, mixed: u64, kind: Kind, b: u32) -> u64 {
-        let unit = self.quotients(b).saturating_mul(kind.group());
-        let group = times(mixed, unit);
-        let mut count = 0u64;
-        for e in self.list.iter() {
-            if times(e.mixed, unit) == group {
-                count = count.saturating_add(1);
-            }
+    /// Where a key stands among 2^b slots.
+    fn entry(&self, held: Held, b: u32) -> Entry {
+        let quotients = power(self.parts.keys.width().saturating_sub(b));
+        Entry {
+            slot: times(held.mixed, quotients),
+            quotient: rest(held.mixed, quotients),
+            value: held.value,
         }
-        count
+    }
+
+    /// How many keys of the list stand in the group of one, at b.
+    fn load(&self, held: Held, store: Store, b: u32) -> u64 {
+        let group = |e: Held| times(self.entry(e, b).slot, store.kind.group());
+        let own = group(held);
+        self.list.iter().filter(|e| group(**e) == own).count() as u64
     }
 
     /// The value number of a key number.
     fn value(&self, key: u64) -> Option<u64> {
-        for e in self.list.iter() {
-            if e.key == key {
-                return Some(e.value);
-            }
-        }
-        None
+        self.list.iter().find(|e| e.key == key).map(|e| e.value)
     }
 
-    fn open(&mut self, b: u32) -> Answer<u64> {
+    fn open(&mut self, b: u32) -> Result<Answer<u64>, Refusal> {
         let k = self.parts.keys.width();
-        if self.opened {
-            return Answer::Refused(Refusal::AlreadyOpen);
+        if self.opened.is_some() {
+            return Err(Refusal::AlreadyOpen);
         }
         if self.parts.mix.width != k {
-            return Answer::Refused(Refusal::PermutationWidth);
+            return Err(Refusal::PermutationWidth);
         }
         if !self.parts.first.fits(k, self.parts.values.width(), b) {
-            return by_table(TableRefusal::DoesNotFit);
+            return Err(Refusal::Table(TableRefusal::DoesNotFit));
         }
-        self.opened = true;
-        self.b = b;
-        Answer::Number(u64::from(b))
+        self.opened = Some(Opened {
+            side: Side::First,
+            b,
+        });
+        Ok(Answer::Number(u64::from(b)))
     }
 
-    /// What stands against a run before its keys are looked for: its place, and why.
-    fn unread(&self, m: u64, n: u64, w: u64) -> Option<(u64, Refusal)> {
-        if n == 0 || n > 64 {
-            return Some((0, Refusal::RunLength));
+    /// What stands against a run before its keys are looked for; else the table in use.
+    fn read(&self, run: Run) -> Result<Opened, RunRefusal> {
+        if run.n == 0 || run.n > 64 {
+            return Err(Refusal::RunLength.at(0));
         }
-        for i in 0..n {
-            if !self.parts.keys.has(m.saturating_add(i)) {
-                return Some((i, Refusal::UnknownKey));
-            }
+        let unknown = (0..run.n).find(|i| !self.parts.keys.has(run.m.saturating_add(*i)));
+        if let Some(place) = unknown {
+            return Err(Refusal::UnknownKey.at(place));
         }
-        if !self.parts.values.has(w) {
-            return Some((0, Refusal::UnknownValue));
+        if !self.parts.values.has(run.w) {
+            return Err(Refusal::UnknownValue.at(0));
         }
-        if self.opened {
-            None
-        } else {
-            Some((0, Refusal::Closed))
+        self.in_use().map_err(|why| why.at(0))
+    }
+
+    /// What stands against one more key.
+    fn against(&self, held: Held, opened: Opened) -> Result<(), Refusal> {
+        if self.value(held.key).is_some() {
+            return Err(Refusal::Table(TableRefusal::Held));
         }
+        let store = self.store(opened.side);
+        if self.load(held, store, opened.b) >= store.kind.limit() {
+            return Err(Refusal::Table(TableRefusal::Full));
+        }
+        Ok(())
     }
 
     /// Takes a run one key after the other, and forgets it all at the first refusal.
-    fn take(&mut self, m: u64, n: u64, w: u64) -> Result<Answer<u64>, AllocError> {
-        if let Some((place, why)) = self.unread(m, n, w) {
-            return Ok(refused_at(place, why));
-        }
-        let kind = self.table(self.on_second);
+    fn take(&mut self, run: Run, opened: Opened) -> Result<Result<(), RunRefusal>, AllocError> {
         let before = self.list.len();
-        for i in 0..n {
-            let key = m.saturating_add(i);
-            let mixed = self.parts.mix.of(key);
-            if let Some(_) = self.value(key) {
-                self.list.truncate(before);
-                return Ok(refused_at(i, Refusal::Table(TableRefusal::Held)));
-            }
-            if self.load(mixed, kind, self.b) >= kind.limit() {
-                self.list.truncate(before);
-                return Ok(refused_at(i, Refusal::Table(TableRefusal::Full)));
-            }
-            self.list.push(Held {
+        for place in 0..run.n {
+            let key = run.m.saturating_add(place);
+            let held = Held {
                 key,
-                value: w,
-                mixed,
-            })?;
+                value: run.w,
+                mixed: self.parts.mix.of(key),
+            };
+            if let Err(why) = self.against(held, opened) {
+                self.list.truncate(before);
+                return Ok(Err(why.at(place)));
+            }
+            self.list.push(held)?;
         }
-        Ok(Answer::Number(n))
+        Ok(Ok(()))
+    }
+
+    /// What stands against cancelling one key.
+    fn against_cancel(&self, key: u64, w: u64) -> Result<(), Refusal> {
+        if self.value(key).ok_or(TableRefusal::Absent)? != w {
+            return Err(Refusal::OtherValue);
+        }
+        Ok(())
     }
 
     /// Cancels a run.
-    fn cancel(&mut self, m: u64, n: u64, w: u64) -> Answer<u64> {
-        if let Some((place, why)) = self.unread(m, n, w) {
-            return refused_at(place, why);
+    fn cancel(&mut self, run: Run) -> Result<(), RunRefusal> {
+        self.read(run)?;
+        for place in 0..run.n {
+            self.against_cancel(run.m.saturating_add(place), run.w)
+                .map_err(|why| why.at(place))?;
         }
-        for i in 0..n {
-            match self.value(m.saturating_add(i)) {
-                None => return refused_at(i, Refusal::Table(TableRefusal::Absent)),
-                Some(there) => {
-                    if there != w {
-                        return refused_at(i, Refusal::OtherValue);
-                    }
-                }
-            }
-        }
-        for i in 0..n {
-            self.forget(m.saturating_add(i));
-        }
-        Answer::Number(n)
+        self.list
+            .retain(|e| e.key < run.m || e.key - run.m >= run.n);
+        Ok(())
     }
 
-    /// One key leaves the list.
-    fn forget(&mut self, key: u64) {
-        for i in 0..self.list.len() {
-            if self.list[i].key == key {
-                self.list.remove(i);
-                return;
-            }
-        }
-    }
-
-    fn find(&self, m: u64) -> Answer<u64> {
+    fn find(&self, m: u64) -> Result<Answer<u64>, Refusal> {
         if !self.parts.keys.has(m) {
-            return Answer::Refused(Refusal::UnknownKey);
+            return Err(Refusal::UnknownKey);
         }
-        if !self.opened {
-            return Answer::Refused(Refusal::Closed);
-        }
-        match self.value(m) {
-            Some(w) => Answer::Value(w),
-            None => by_table(TableRefusal::Absent),
-        }
+        self.in_use()?;
+        Ok(Answer::Value(self.value(m).ok_or(TableRefusal::Absent)?))
     }
 
-    /// The entry at a place of the walk, slots upwards.
-    fn at(&self, i: u64) -> Answer<u64> {
-        if !self.opened {
-            return Answer::Refused(Refusal::Closed);
-        }
-        let unit = self.quotients(self.b);
-        let mut seen = 0u64;
-        for slot in 0..power(self.b) {
-            for e in self.list.iter() {
-                if times(e.mixed, unit) == slot {
-                    if seen == i {
-                        return Answer::Entry(e.key, e.value);
-                    }
-                    seen = seen.saturating_add(1);
-                }
-            }
-        }
-        Answer::Refused(Refusal::NoSuchPlace)
+    /// What is held, slots upwards.
+    fn walk(&self, b: u32) -> Result<Vec<Held>, AllocError> {
+        let mut walk = self.list.clone()?;
+        walk.sort_by_key(|e| self.entry(*e, b).slot)?;
+        Ok(walk)
+    }
+
+    /// The entries of a table with 2^b slots, slots upwards.
+    pub fn entries(&self, heap: Global, b: u32) -> Result<Vec<Entry>, AllocError> {
+        self.walk(b)?
+            .iter()
+            .map(|e| self.entry(*e, b))
+            .collect(heap)
+    }
+
+    /// The entry at a place of the walk.
+    fn at(&self, i: u64) -> Result<Answer<u64>, AllocError> {
+        let Ok(opened) = self.in_use() else {
+            return Ok(Answer::Refused(Refusal::Closed));
+        };
+        let walk = self.walk(opened.b)?;
+        Ok(
+            walk.get(i as usize)
+                .map_or(Answer::Refused(Refusal::NoSuchPlace), |e| {
+                    Answer::Entry(e.key, e.value)
+                }),
+        )
     }
 
     /// Changes to the other table, with one more bit of slots.
-    fn enlarge(&mut self) -> Answer<u64> {
-        if !self.opened {
-            return Answer::Refused(Refusal::Closed);
+    fn enlarge(&mut self) -> Result<Answer<u64>, Refusal> {
+        let Opened { side, b } = self.in_use()?;
+        let side = other(side);
+        let store = self.store(side);
+        let b = b.saturating_add(1);
+        if !store.fits(self.parts.keys.width(), self.parts.values.width(), b) {
+            return Err(Refusal::Table(TableRefusal::DoesNotFit));
         }
-        let other = self.table(!self.on_second);
-        let b = self.b.saturating_add(1);
-        if !other.fits(self.parts.keys.width(), self.parts.values.width(), b) {
-            return by_table(TableRefusal::DoesNotFit);
+        if self
+            .list
+            .iter()
+            .any(|e| self.load(*e, store, b) > store.kind.limit())
+        {
+            return Err(Refusal::Table(TableRefusal::Full));
         }
-        for e in self.list.iter() {
-            if self.load(e.mixed, other, b) > other.limit() {
-                return by_table(TableRefusal::Full);
-            }
-        }
-        self.b = b;
-        self.on_second = !self.on_second;
-        Answer::Number(u64::from(b))
+        self.opened = Some(Opened { side, b });
+        Ok(Answer::Number(u64::from(b)))
     }
 
     /// Any of the seven calls.
     pub fn put(&mut self, call: Call<u64, u64>) -> Result<Answer<u64>, AllocError> {
-        match call {
-            Call::Open(b) => Ok(self.open(b)),
-            Call::Take(m, n, w) => self.take(m, n, w),
-            Call::Cancel(m, n, w) => Ok(self.cancel(m, n, w)),
-            Call::Find(m) => Ok(self.find(m)),
-            Call::Count => Ok(Answer::Number(self.list.len() as u64)),
-            Call::At(i) => Ok(self.at(i)),
-            Call::Enlarge => Ok(self.enlarge()),
-        }
+        Ok(match call {
+            Call::Open(b) => answer(self.open(b)),
+            Call::Take(m, n, w) => {
+                let run = Run { m, n, w };
+                match self.read(run) {
+                    Ok(opened) => run_answer(run, self.take(run, opened)?),
+                    Err(refusal) => Answer::RefusedAt(refusal),
+                }
+            }
+            Call::Cancel(m, n, w) => {
+                let run = Run { m, n, w };
+                run_answer(run, self.cancel(run))
+            }
+            Call::Find(m) => answer(self.find(m)),
+            Call::Count => Answer::Number(self.list.len() as u64),
+            Call::At(i) => self.at(i)?,
+            Call::Enlarge => answer(self.enlarge()),
+        })
     }
 }

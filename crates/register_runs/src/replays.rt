@@ -1,19 +1,21 @@
 //! Lists of calls replayed, on one register and on two.
-use crate::compare::{ended, same_words};
-use crate::items::{Numbered, Sort};
-use crate::machine::{Machine, alike, numbered, spelled};
+use crate::compare::Pair;
+use crate::items::Sort;
+use crate::lists::is_full;
+use crate::machine::{Machine, numbered, spelled};
 use crate::mirror::{Mirror, Parts};
-use crate::noise::Noise;
-use crate::rules::{Kind, Mix};
-use crate::script::some_call;
+use crate::report::{Report, is};
+use crate::rules::{Mix, Store};
+use crate::script::{Tide, some_call};
 use crate::settings::{SAME, chain, packed_table, plain_table};
-use coding::{Booking, BookingCoding, Coding, Night, NightCoding};
+use coding::{Booking, BookingCoding, Night, NightCoding};
+use expected::kind::Kind;
+use expected::noise::Noise;
 use model::answer::Answer;
 use model::call::Call;
 use permutation::Identity;
 use register::{replay, replay_both};
 use std::io;
-use tally::tally::Tally;
 
 /// What stands where no answer was written.
 const UNTOUCHED: u64 = 4_242_424_242;
@@ -22,7 +24,7 @@ const MIX: Mix = Mix {
     width: 20,
     multiplier: 660_677,
     increment: 54_321,
-    shift: 7,
+    shift: Some(7),
 };
 
 /// Two packed tables under a mixing permutation.
@@ -30,12 +32,12 @@ const PACKED: Parts = Parts {
     keys: Sort::Nights,
     values: Sort::Bookings,
     mix: MIX,
-    first: Kind {
-        packed: true,
+    first: Store {
+        kind: Kind::Packed,
         words: 150,
     },
-    second: Kind {
-        packed: true,
+    second: Store {
+        kind: Kind::Packed,
         words: 290,
     },
 };
@@ -45,12 +47,12 @@ const PLAIN: Parts = Parts {
     keys: Sort::Nights,
     values: Sort::Bookings,
     mix: SAME,
-    first: Kind {
-        packed: false,
+    first: Store {
+        kind: Kind::Plain,
         words: 520,
     },
-    second: Kind {
-        packed: false,
+    second: Store {
+        kind: Kind::Plain,
         words: 1030,
     },
 };
@@ -61,12 +63,11 @@ fn calls_from(rt: &HostRuntime, b: u32, number: u64) -> io::Result<Vec<Call<u64,
     let mut noise = Noise::new(number);
     let mut calls = Vec::new(rt.alloc());
     for i in 0..number {
-        let call = if i == 0 {
-            Call::Open(b)
-        } else if i % 90 == 89 {
-            Call::Enlarge
-        } else {
-            some_call(&mut noise, &mirror, i > 300)
+        let call = match i {
+            0 => Call::Open(b),
+            _ if i % 90 == 89 => Call::Enlarge,
+            _ if i > 300 => some_call(&mut noise, &mirror, Tide::Rising),
+            _ => some_call(&mut noise, &mirror, Tide::Falling),
         };
         let _ = mirror.put(call)?;
         calls.push(call)?;
@@ -76,50 +77,43 @@ fn calls_from(rt: &HostRuntime, b: u32, number: u64) -> io::Result<Vec<Call<u64,
 
 /// The same calls with their items.
 fn items_of(rt: &HostRuntime, calls: &[Call<u64, u64>]) -> io::Result<Vec<Call<Night, Booking>>> {
-    let mut items = Vec::new(rt.alloc());
-    for call in calls.iter() {
-        items.push(spelled(*call))?;
-    }
-    Ok(items)
+    Ok(calls.iter().map(|call| spelled(*call)).collect(rt.alloc())?)
 }
 
 /// Room for answers, with nothing written.
 fn room_for(rt: &HostRuntime, number: usize) -> io::Result<Vec<Answer<Booking>>> {
-    let mut room = Vec::new(rt.alloc());
-    for _ in 0..number {
-        room.push(Answer::Number(UNTOUCHED))?;
-    }
-    Ok(room)
+    Ok(vec![in rt.alloc(); Answer::Number(UNTOUCHED); number]?)
 }
 
 /// Counts which answers to the calls put are the list's, whether the others are as they were, and whether the tables have the list's words.
-fn check<M: Machine>(
-    rt: &HostRuntime,
-    tally: &mut Tally,
-    machine: &M,
+fn check<M: Machine + Drop>(
+    report: &mut Report<'_>,
+    machine: M,
     parts: Parts,
     calls: &[Call<u64, u64>],
     answers: &[Answer<Booking>],
 ) -> io::Result<()> {
-    let mut mirror = Mirror::new(rt.alloc(), parts);
+    let mut pair = Pair::new(report, machine, parts);
     for (i, answer) in answers.iter().enumerate() {
         let want = match calls.get(i) {
-            Some(call) => mirror.put(*call)?,
+            Some(call) => pair.mirror.put(*call)?,
             None => Answer::Number(UNTOUCHED),
         };
-        tally.count(alike(numbered(*answer), want));
+        report.part.count(is(numbered(*answer), want));
     }
-    tally.count(same_words(rt, machine, &mirror)?);
+    let words = pair.same_words(report)?;
+    report.part.count(words);
     Ok(())
 }
 
 /// A list of calls on one register, with room for so many answers.
-fn replayed(rt: &HostRuntime, number: u64, room: usize, total: &mut Tally) -> io::Result<()> {
+fn replayed(report: &mut Report<'_>, number: u64, room: usize) -> io::Result<()> {
+    let rt = report.rt;
     let Ok(permutation) = chain(MIX) else {
-        return total.unmade(rt);
+        return report.unmade();
     };
     let calls = calls_from(rt, 4, number)?;
-    let items = items_of(rt, calls.as_slice())?;
+    let items = items_of(rt, &calls)?;
     let mut answers = room_for(rt, room)?;
     let parts = register::Parts {
         keys: NightCoding,
@@ -128,69 +122,44 @@ fn replayed(rt: &HostRuntime, number: u64, room: usize, total: &mut Tally) -> io
         first: packed_table(rt, 150)?,
         second: packed_table(rt, 290)?,
     };
-    let (register, put) = replay(parts, items.as_slice(), answers.as_mut_slice());
-    let mut tally = Tally::new();
-    tally.count(put == items.len().min(room));
-    let answers = answers.as_slice();
-    check(
-        rt,
-        &mut tally,
-        &register,
-        PACKED,
-        reached(calls.as_slice(), put),
-        answers,
-    )?;
-    ended(rt, "replayed", &tally, total)?;
+    let (register, put) = replay(parts, &items, &mut answers);
+    report.part.count(put == items.len().min(room));
+    check(report, register, PACKED, reached(&calls, put), &answers)?;
+    report.ended("replayed")?;
     println!(rt; "  {number} calls, {put} of them put")
 }
 
 /// The calls that were put.
 fn reached(calls: &[Call<u64, u64>], put: usize) -> &[Call<u64, u64>] {
-    if put <= calls.len() {
-        &calls[0..put]
-    } else {
-        calls
-    }
-}
-
-/// Whether it is a take that found no room.
-fn is_full(call: Call<u64, u64>, answer: Answer<u64>) -> bool {
-    match (call, answer) {
-        (Call::Take(_, _, _), Answer::RefusedAt(e)) => e.why.number() == 4,
-        _ => false,
-    }
+    calls.get(..put).unwrap_or(calls)
 }
 
 /// Whether two registers reply alike to it, whatever their tables.
 fn is_compared(call: Call<u64, u64>) -> bool {
-    match call {
-        Call::Take(_, _, _) | Call::Cancel(_, _, _) | Call::Find(_) | Call::Count => true,
-        _ => false,
-    }
+    matches!(
+        call,
+        Call::Take(_, _, _) | Call::Cancel(_, _, _) | Call::Find(_) | Call::Count
+    )
 }
 
 /// Counts whether two registers reply alike until a take finds no room, if they do so to the open that comes first. Gives how many replies that were.
 fn agreed(
-    tally: &mut Tally,
+    report: &mut Report<'_>,
     calls: &[Call<u64, u64>],
     answers: &[Answer<Booking>],
     others: &[Answer<Booking>],
 ) -> u64 {
     let mut compared = 0u64;
-    for (i, call) in calls.iter().enumerate() {
-        if let (Some(one), Some(other)) = (answers.get(i), others.get(i)) {
-            let one = numbered(*one);
-            let other = numbered(*other);
-            if i == 0 && !alike(one, other) {
-                return compared;
-            }
-            if is_full(*call, one) || is_full(*call, other) {
-                return compared;
-            }
-            if is_compared(*call) {
-                tally.count(alike(one, other));
-                compared = compared.saturating_add(1);
-            }
+    for (i, (call, (one, other))) in calls.iter().zip(answers.iter().zip(others)).enumerate() {
+        let one = numbered(*one);
+        let other = numbered(*other);
+        let unlike_open = i == 0 && one != other;
+        if unlike_open || is_full(*call, one) || is_full(*call, other) {
+            return compared;
+        }
+        if is_compared(*call) {
+            report.part.count(is(one, other));
+            compared = compared.saturating_add(1);
         }
     }
     compared
@@ -198,18 +167,17 @@ fn agreed(
 
 /// One list of calls on two registers, with room for so many answers of each.
 fn replayed_on_both(
-    rt: &HostRuntime,
-    straight: Identity,
+    report: &mut Report<'_>,
     b: u32,
     number: u64,
     rooms: (usize, usize),
-    total: &mut Tally,
 ) -> io::Result<()> {
-    let Ok(mixed) = chain(MIX) else {
-        return total.unmade(rt);
+    let rt = report.rt;
+    let (Ok(mixed), Ok(straight)) = (chain(MIX), Identity::new(20)) else {
+        return report.unmade();
     };
     let calls = calls_from(rt, b, number)?;
-    let items = items_of(rt, calls.as_slice())?;
+    let items = items_of(rt, &calls)?;
     let mut answers = room_for(rt, rooms.0)?;
     let mut others = room_for(rt, rooms.1)?;
     let one = register::Parts {
@@ -226,32 +194,24 @@ fn replayed_on_both(
         first: plain_table(rt, 520)?,
         second: plain_table(rt, 1030)?,
     };
-    let (first, second, put) = replay_both(
-        one,
-        other,
-        items.as_slice(),
-        answers.as_mut_slice(),
-        others.as_mut_slice(),
-    );
-    let mut tally = Tally::new();
-    tally.count(put == items.len().min(rooms.0).min(rooms.1));
-    let calls = reached(calls.as_slice(), put);
-    check(rt, &mut tally, &first, PACKED, calls, answers.as_slice())?;
-    check(rt, &mut tally, &second, PLAIN, calls, others.as_slice())?;
-    let same = agreed(&mut tally, calls, answers.as_slice(), others.as_slice());
-    ended(rt, "replayed on both", &tally, total)?;
+    let (first, second, put) = replay_both(one, other, &items, &mut answers, &mut others);
+    report
+        .part
+        .count(put == items.len().min(rooms.0).min(rooms.1));
+    let calls = reached(&calls, put);
+    check(report, first, PACKED, calls, &answers)?;
+    check(report, second, PLAIN, calls, &others)?;
+    let same = agreed(report, calls, &answers, &others);
+    report.ended("replayed on both")?;
     println!(rt; "  {number} calls, {put} of them put, {same} compared")
 }
 
 /// Runs all of it.
-pub fn run(rt: &HostRuntime, total: &mut Tally) -> io::Result<()> {
-    replayed(rt, 900, 900, total)?;
-    replayed(rt, 400, 250, total)?;
-    replayed(rt, 250, 400, total)?;
-    let Ok(straight) = Identity::new(20) else {
-        return total.unmade(rt);
-    };
-    replayed_on_both(rt, straight, 5, 1000, (1000, 1000), total)?;
-    replayed_on_both(rt, straight, 4, 600, (500, 450), total)?;
-    replayed_on_both(rt, straight, 3, 200, (180, 300), total)
+pub fn run(report: &mut Report<'_>) -> io::Result<()> {
+    replayed(report, 900, 900)?;
+    replayed(report, 400, 250)?;
+    replayed(report, 250, 400)?;
+    replayed_on_both(report, 5, 1000, (1000, 1000))?;
+    replayed_on_both(report, 4, 600, (500, 450))?;
+    replayed_on_both(report, 3, 200, (180, 300))
 }

@@ -1,36 +1,15 @@
 //! The formulas of permutations and of tables.
+use expected::kind::Kind;
+use expected::layout::Layout;
+use expected::numbers::{power, rest, times};
 
-/// 2 to the n.
-pub fn power(n: u32) -> u64 {
-    let mut p = 1u64;
-    for _ in 0..n {
-        p = p.saturating_mul(2);
-    }
-    p
-}
-
-/// How often d goes into x; 0 where d is 0.
-pub fn times(x: u64, d: u64) -> u64 {
-    if d == 0 { 0 } else { x / d }
-}
-
-/// What is left of x then.
-pub fn rest(x: u64, d: u64) -> u64 {
-    if d == 0 { x } else { x % d }
-}
-
-/// How many words 48 fields take.
-pub fn area(width: u32) -> u64 {
-    u64::from(width).saturating_mul(48).saturating_add(63) / 64
-}
-
-/// A permutation: a multiplication and an addition by 2^width, then the XOR with the same shifted down, which a shift of 0 leaves out.
-#[derive(Clone, Copy)]
+/// A permutation: a multiplication and an addition by 2^width, then perhaps the XOR with the same shifted down.
+#[derive(Clone, Copy, PartialEq, Eq, Debug)]
 pub struct Mix {
     pub width: u32,
     pub multiplier: u64,
     pub increment: u64,
-    pub shift: u32,
+    pub shift: Option<u32>,
 }
 
 impl Mix {
@@ -38,40 +17,24 @@ impl Mix {
     pub fn of(self, x: u64) -> u64 {
         let all = x.wrapping_mul(self.multiplier).wrapping_add(self.increment);
         let y = rest(all, power(self.width));
-        if self.shift == 0 {
-            y
-        } else {
-            y ^ times(y, power(self.shift))
-        }
+        self.shift.map_or(y, |shift| y ^ times(y, power(shift)))
     }
 }
 
-/// A table: whether it is packed, and how many words it has.
-#[derive(Clone, Copy)]
-pub struct Kind {
-    pub packed: bool,
+/// A table: its kind, and how many words it has.
+#[derive(Clone, Copy, PartialEq, Eq, Debug)]
+pub struct Store {
+    pub kind: Kind,
     pub words: u64,
 }
 
-impl Kind {
-    /// How many slots make a group.
-    pub fn group(self) -> u64 {
-        if self.packed { 16 } else { 1 }
-    }
-
-    /// How many entries a group may hold.
-    pub fn limit(self) -> u64 {
-        if self.packed { 48 } else { 15 }
-    }
-
-    /// How many words a group's block has.
-    pub fn block(self, k: u32, v: u32, b: u32) -> u64 {
-        if self.packed {
-            area(k.saturating_sub(b))
-                .saturating_add(area(v))
-                .saturating_add(1)
-        } else {
-            16
+impl Store {
+    /// How it stands in its words, with 2^b slots.
+    pub fn layout(self, k: u32, v: u32, b: u32) -> Layout {
+        Layout {
+            kind: self.kind,
+            quotient: k.saturating_sub(b),
+            value: v,
         }
     }
 
@@ -80,10 +43,10 @@ impl Kind {
         if k > 32 || v > 32 || b > 20 || b >= k {
             return false;
         }
-        if self.packed && b < 4 {
+        if self.kind == Kind::Packed && b < 4 {
             return false;
         }
-        let blocks = times(power(b), self.group());
-        self.block(k, v, b).saturating_mul(blocks) <= self.words
+        let blocks = times(power(b), self.kind.group());
+        self.layout(k, v, b).block().saturating_mul(blocks) <= self.words
     }
 }

@@ -1,7 +1,7 @@
 //! Calls that look random: few keys, so that groups fill, and at times what is to be refused.
 use crate::items::Sort;
-use crate::mirror::Mirror;
-use crate::noise::Noise;
+use crate::mirror::{Mirror, Run};
+use expected::noise::Noise;
 use model::call::Call;
 
 /// Of a sort of items: numbers that are used much, and numbers at the edges, some of them no item's.
@@ -52,7 +52,7 @@ fn some_number(noise: &mut Noise, sort: Sort) -> u64 {
 }
 
 /// A key number, its run's length, and a value number.
-fn some_run(noise: &mut Noise, mirror: &Mirror) -> (u64, u64, u64) {
+fn some_run(noise: &mut Noise, mirror: &Mirror) -> Run {
     let mut m = some_number(noise, mirror.parts.keys);
     if noise.below(25) != 0 {
         m = m.saturating_add(noise.below(44));
@@ -66,14 +66,18 @@ fn some_run(noise: &mut Noise, mirror: &Mirror) -> (u64, u64, u64) {
         4 | 5 | 6 | 7 => noise.below(24),
         _ => noise.below(6).saturating_add(1),
     };
-    (m, n, w)
+    Run { m, n, w }
 }
 
 /// A run that begins at a key that is held, under its value; any run where none is.
-fn held_run(noise: &mut Noise, mirror: &Mirror) -> (u64, u64, u64) {
+fn held_run(noise: &mut Noise, mirror: &Mirror) -> Run {
     let i = noise.below(mirror.list.len() as u64);
     match mirror.list.get(i as usize) {
-        Some(e) => (e.key, noise.below(4).max(1), e.value),
+        Some(e) => Run {
+            m: e.key,
+            n: noise.below(4).max(1),
+            w: e.value,
+        },
         None => some_run(noise, mirror),
     }
 }
@@ -81,36 +85,35 @@ fn held_run(noise: &mut Noise, mirror: &Mirror) -> (u64, u64, u64) {
 /// A b that fits no table while the list is closed, any b after that.
 fn some_opening(noise: &mut Noise, mirror: &Mirror) -> u32 {
     let b = (noise.next() % 40) as u32;
-    if mirror.opened { b } else { b + 21 }
+    if mirror.opened.is_some() { b } else { b + 21 }
 }
 
-/// Any of the seven calls, but an enlargement only while the list is closed. While it rises, more takes than cancels.
-pub fn some_call(noise: &mut Noise, mirror: &Mirror, rising: bool) -> Call<u64, u64> {
-    let (m, n, w) = some_run(noise, mirror);
-    let (held, few, under) = held_run(noise, mirror);
+/// Whether more is taken than cancelled, or less.
+#[derive(Clone, Copy, PartialEq, Eq, Debug)]
+pub enum Tide {
+    Rising,
+    Falling,
+}
+
+/// Any of the seven calls, but an enlargement only while the list is closed.
+pub fn some_call(noise: &mut Noise, mirror: &Mirror, tide: Tide) -> Call<u64, u64> {
+    let run = some_run(noise, mirror);
+    let held = held_run(noise, mirror);
     match noise.below(24) {
-        0 | 1 | 2 | 3 | 4 | 5 | 6 | 7 => {
-            if rising {
-                Call::Take(m, n, w)
-            } else {
-                Call::Cancel(held, few, under)
-            }
-        }
-        8 => Call::Take(m, n, w),
-        9 | 10 | 11 => Call::Cancel(held, few, under),
-        12 => Call::Cancel(m, n, w),
-        13 => Call::Cancel(held, few, w),
-        14 | 15 => Call::Find(m),
-        16 => Call::Find(held),
+        0 | 1 | 2 | 3 | 4 | 5 | 6 | 7 => match tide {
+            Tide::Rising => run.take(),
+            Tide::Falling => held.cancel(),
+        },
+        8 => run.take(),
+        9 | 10 | 11 => held.cancel(),
+        12 => run.cancel(),
+        13 => Run { w: run.w, ..held }.cancel(),
+        14 | 15 => Call::Find(run.m),
+        16 => Call::Find(held.m),
         17 | 18 | 19 => Call::At(noise.below((mirror.list.len() as u64).saturating_add(3))),
-        20 => Call::At(n),
+        20 => Call::At(run.n),
         21 => Call::Open(some_opening(noise, mirror)),
-        _ => {
-            if mirror.opened {
-                Call::Count
-            } else {
-                Call::Enlarge
-            }
-        }
+        _ if mirror.opened.is_some() => Call::Count,
+        _ => Call::Enlarge,
     }
 }

@@ -1,8 +1,8 @@
 //! What registers are made of.
 use crate::items::Sort;
 use crate::rules::Mix;
-use blocks::{PackedTable, PlainTable};
 use coding::{BookingCoding, CardCoding, LoanCoding, NightCoding};
+use blocks::{PackedTable, PlainTable};
 use permutation::{Affine, Chain, SetUpRefusal, XorShift};
 use std::io;
 
@@ -21,7 +21,7 @@ pub const SAME: Mix = Mix {
     width: 20,
     multiplier: 1,
     increment: 0,
-    shift: 0,
+    shift: None,
 };
 
 /// Nights and bookings under the identity.
@@ -43,7 +43,7 @@ pub const CARDS: Setting<CardCoding, LoanCoding> = Setting {
         width: 32,
         multiplier: 2_654_435_761,
         increment: 4_000_000_000,
-        shift: 0,
+        shift: None,
     },
 };
 
@@ -63,11 +63,6 @@ pub type Mixed = Chain<Affine, XorShift>;
 /// The permutation of a formula with all its parts.
 pub fn chain(mix: Mix) -> Result<Mixed, SetUpRefusal> {
     let affine = Affine::new(mix.width, mix.multiplier, mix.increment)?;
-    let xor_shift = XorShift::new(mix.width, mix.shift)?;
-    Chain::new(affine, xor_shift)
-}
-
-/// Four of a kind.
-pub fn chains(mix: Mix) -> Result<(Mixed, Mixed, Mixed, Mixed), SetUpRefusal> {
-    Ok((chain(mix)?, chain(mix)?, chain(mix)?, chain(mix)?))
+    let shift = mix.shift.ok_or(SetUpRefusal::Shift)?;
+    Chain::new(affine, XorShift::new(mix.width, shift)?)
 }

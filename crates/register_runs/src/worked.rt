@@ -1,7 +1,7 @@
 //! Worked examples: calls, and the answers that they must have.
-use crate::compare::{ended, expect};
 use crate::machine::Machine;
 use crate::mirror::refused_at;
+use crate::report::Report;
 use crate::settings::{packed_table, plain_table};
 use coding::{BookingCoding, NightCoding};
 use model::answer::Answer;
@@ -12,7 +12,6 @@ use register::{Parts, Register};
 use std::io;
 use table::refusal::TableRefusal;
 use table::table::Table;
-use tally::tally::Tally;
 
 mod runs;
 mod tables;
@@ -30,21 +29,6 @@ pub fn stopped(place: u64, why: TableRefusal) -> Answer<u64> {
     refused_at(place, Refusal::Table(why))
 }
 
-/// Puts the calls to a register, and counts which answers are the wanted ones.
-pub fn follow<M: Machine + Drop>(
-    rt: &HostRuntime,
-    tally: &mut Tally,
-    machine: M,
-    steps: Steps<'_>,
-) -> io::Result<()> {
-    let mut machine = machine;
-    for (call, want) in steps.iter() {
-        let got = machine.ask(*call);
-        expect(rt, tally, "answered", got, *want)?;
-    }
-    Ok(())
-}
-
 /// A register of nights over two tables, under the identity.
 pub fn nights<A: Table, B: Table>(
     same: Identity,
@@ -60,49 +44,58 @@ pub fn nights<A: Table, B: Table>(
     })
 }
 
-/// The same calls over packed tables.
-pub fn on_packed(rt: &HostRuntime, tally: &mut Tally, steps: Steps<'_>) -> io::Result<()> {
-    let Ok(same) = Identity::new(20) else {
-        return tally.unmade(rt);
-    };
-    let one = packed_table(rt, 150)?;
-    let other = packed_table(rt, 290)?;
-    follow(rt, tally, nights(same, one, other), steps)
-}
+impl<'a> Report<'a> {
+    /// Puts the calls to a register, and counts which answers are the wanted ones.
+    pub fn follow<M: Machine + Drop>(
+        &mut self,
+        mut machine: M,
+        steps: Steps<'_>,
+    ) -> io::Result<()> {
+        for (call, want) in steps.iter() {
+            let got = machine.ask(*call);
+            self.expect(got, *want)?;
+        }
+        Ok(())
+    }
 
-/// The same calls over plain tables.
-pub fn on_plain(rt: &HostRuntime, tally: &mut Tally, steps: Steps<'_>) -> io::Result<()> {
-    let Ok(same) = Identity::new(20) else {
-        return tally.unmade(rt);
-    };
-    let one = plain_table(rt, 1030)?;
-    let other = plain_table(rt, 520)?;
-    follow(rt, tally, nights(same, one, other), steps)
-}
+    /// Puts the calls to a register of nights over packed tables.
+    pub fn on_packed(&mut self, steps: Steps<'_>) -> io::Result<()> {
+        let Ok(same) = Identity::new(20) else {
+            return self.unmade();
+        };
+        let one = packed_table(self.rt, 150)?;
+        let other = packed_table(self.rt, 290)?;
+        self.follow(nights(same, one, other), steps)
+    }
 
-/// The same calls over packed tables and over plain ones.
-pub fn on_both(
-    rt: &HostRuntime,
-    what: &str,
-    steps: Steps<'_>,
-    total: &mut Tally,
-) -> io::Result<()> {
-    let mut tally = Tally::new();
-    on_packed(rt, &mut tally, steps)?;
-    on_plain(rt, &mut tally, steps)?;
-    ended(rt, what, &tally, total)
+    /// Puts the calls to a register of nights over plain tables.
+    pub fn on_plain(&mut self, steps: Steps<'_>) -> io::Result<()> {
+        let Ok(same) = Identity::new(20) else {
+            return self.unmade();
+        };
+        let one = plain_table(self.rt, 1030)?;
+        let other = plain_table(self.rt, 520)?;
+        self.follow(nights(same, one, other), steps)
+    }
+
+    /// The same calls over packed tables and over plain ones.
+    pub fn on_both(&mut self, what: &str, steps: Steps<'_>) -> io::Result<()> {
+        self.on_packed(steps)?;
+        self.on_plain(steps)?;
+        self.ended(what)
+    }
 }
 
 /// Runs all of it.
-pub fn run(rt: &HostRuntime, total: &mut Tally) -> io::Result<()> {
-    runs::held_night(rt, total)?;
-    runs::cancelled(rt, total)?;
-    runs::lengths_and_values(rt, total)?;
-    runs::last_nights(rt, total)?;
-    tables::full_groups(rt, total)?;
-    tables::opened_twice(rt, total)?;
-    tables::unequal_widths(rt, total)?;
-    tables::enlarged(rt, total)?;
-    runs::cards(rt, total)?;
-    tables::filled_before(rt, total)
+pub fn run(report: &mut Report<'_>) -> io::Result<()> {
+    runs::held_night(report)?;
+    runs::cancelled(report)?;
+    runs::lengths_and_values(report)?;
+    runs::last_nights(report)?;
+    tables::full_groups(report)?;
+    tables::opened_twice(report)?;
+    tables::unequal_widths(report)?;
+    tables::enlarged(report)?;
+    runs::cards(report)?;
+    tables::filled_before(report)
 }

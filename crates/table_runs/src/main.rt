@@ -3,8 +3,12 @@
 
 use std::io;
 
+mod content;
+mod damage;
 mod packed_table;
+mod pair;
 mod plain_table;
+mod tried;
 
 fn main(rt: HostRuntime) -> io::Result<()> {
     plain_table::run(&rt)?;

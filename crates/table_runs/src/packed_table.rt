@@ -1,137 +1,249 @@
 //! Runs of the packed table over several widths: calls drawn at random, the 49th entry of a group, 48 entries in one slot, and damaged words.
-//! After each call the words are compared with words that are written bit by bit from a plain list of entries.
-
-mod damage;
-mod expected;
-mod pair;
-
-use pair::Pair;
+use crate::damage::Damage;
+use crate::pair::{Pair, layout};
+use expected::layout::Entry;
+use expected::noise::Noise;
+use expected::numbers::{power, rest};
+use blocks::PackedTable;
 use std::io;
+use table::refusal::TableRefusal::OutOfRange;
 
-/// A next number, with its low bits mixed well enough for a walk.
-fn draw(seed: &mut u64) -> u64 {
-    *seed = seed
-        .wrapping_mul(6_364_136_223_846_793_005)
-        .wrapping_add(1_442_695_040_888_963_407);
-    *seed >> 33
+/// Widths of key numbers, of value numbers, and of slot numbers.
+#[derive(Clone, Copy)]
+struct Widths {
+    k: u32,
+    v: u32,
+    b: u32,
+}
+
+/// Where and what a call is tried with.
+#[derive(Clone, Copy)]
+struct Call {
+    slot: u64,
+    quotient: u64,
+    x: u64,
 }
 
 /// The lowest bits of a number.
 fn low(x: u64, bits: u32) -> u64 {
-    if bits < 64 { x % (1 << bits) } else { x }
+    rest(x, power(bits))
 }
 
-/// How many words a table of these widths needs, and two more.
-fn words(k: u32, v: u32, b: u32) -> usize {
-    let width = expected::area(u64::from(k.saturating_sub(b)))
-        .saturating_add(expected::area(u64::from(v)))
-        .saturating_add(1);
-    let groups = if b >= 4 && b < 24 { 1u64 << (b - 4) } else { 0 };
-    width.saturating_mul(groups).saturating_add(2) as usize
-}
-
-/// Prints the widths, how often a slot held the quotient and a group was full, and the cases.
-fn report(rt: &HostRuntime, t: &Pair, what: &str, k: u32, v: u32, b: u32) -> io::Result<()> {
-    let held = t.held;
-    let full = t.full;
-    print!(rt; "k = {k}, v = {v}, b = {b}, {held} held, {full} full, ")?;
-    t.tally.show(rt, what)
-}
-
-/// A slot: every fourth any, the others of the last group.
-fn slot_for(i: u64, x: u64, b: u32) -> u64 {
-    if i % 4 == 0 {
-        low(x, b)
-    } else {
-        low(x, b) | low(u64::MAX, b) / 16 * 16
+impl Widths {
+    /// The first slot of the last group.
+    fn last_group(self) -> u64 {
+        low(u64::MAX, self.b) / 16 * 16
     }
-}
 
-/// 90 adds and then 90 removals at random.
-fn walk(rt: &HostRuntime, k: u32, v: u32, b: u32) -> io::Result<()> {
-    let mut t = Pair::new(rt, words(k, v, b), k, v, b)?;
-    let mut seed = 11;
-    for i in 0..90u64 {
-        let slot = slot_for(i, draw(&mut seed), b);
-        let quotient = low(draw(&mut seed), k.saturating_sub(b).min(3));
-        let x = draw(&mut seed);
-        t.add(slot, quotient, low(x.wrapping_mul(x), v))?;
-        t.sizes(slot);
+    /// A table over as many words as these widths need, and two more.
+    fn formed(self, rt: &HostRuntime) -> io::Result<Pair<PackedTable>> {
+        let Widths { k, v, b } = self;
+        let block = layout::<PackedTable>(k, v, b).block();
+        let words = block.saturating_mul(power(b.saturating_sub(4)));
+        let mut pair = Pair::new(rt, words.saturating_add(2) as usize)?;
+        pair.form(k, v, b, Ok(()));
+        Ok(pair)
     }
-    let mut seed = 11;
-    for i in 0..90u64 {
-        let slot = slot_for(i, draw(&mut seed), b);
-        let quotient = low(draw(&mut seed), k.saturating_sub(b).min(3));
-        draw(&mut seed);
-        t.remove(slot, quotient);
-        t.sizes(low(seed, b));
-    }
-    report(rt, &t, "at random", k, v, b)
-}
 
-/// A group takes 48 entries and refuses the 49th, until one is removed.
-fn forty_ninth(rt: &HostRuntime, k: u32, v: u32, b: u32) -> io::Result<()> {
-    let mut t = Pair::new(rt, words(k, v, b), k, v, b)?;
-    let first = low(u64::MAX, b) / 16 * 16;
-    for i in 0..48u64 {
-        t.add(
-            first | (i * 7) % 16,
-            i / 16,
-            low(u64::MAX.wrapping_sub(i), v),
+    /// Where the i-th call goes: every fourth to any slot, the others into the last group.
+    fn some(self, noise: &mut Noise, i: u64) -> Call {
+        let slot = low(noise.next(), self.b);
+        let quotient = low(noise.next(), self.k.saturating_sub(self.b).min(3));
+        Call {
+            slot: if i % 4 == 0 {
+                slot
+            } else {
+                slot | self.last_group()
+            },
+            quotient,
+            x: noise.next(),
+        }
+    }
+
+    /// Prints the widths, how often a slot held the quotient and a group was full, and the cases.
+    fn report(self, rt: &HostRuntime, t: &Pair<PackedTable>, what: &str) -> io::Result<()> {
+        let Widths { k, v, b } = self;
+        print!(rt;
+            "k = {k}, v = {v}, b = {b}, {} held, {} full, ",
+            t.held, t.full
         )?;
+        t.tally.show(rt, what)
     }
-    t.add(first | 3, 3, 0)?;
-    t.add(first | 15, 3, low(u64::MAX, v))?;
-    t.add(first | 3, 1, 0)?;
-    t.remove(first, 3);
-    t.remove(first, 1);
-    t.add(first | 3, 3, low(u64::MAX, v))?;
-    t.add(first, 1, 0)?;
-    for i in 0..16u64 {
-        t.sizes(first | i);
+
+    /// 90 adds and then 90 removals at random.
+    fn walk(self, rt: &HostRuntime) -> io::Result<()> {
+        let mut t = self.formed(rt)?;
+        let mut noise = Noise::new(11);
+        for i in 0..90 {
+            let Call { slot, quotient, x } = self.some(&mut noise, i);
+            t.put(slot, quotient, low(x.wrapping_mul(x), self.v))?;
+            t.sizes(slot);
+        }
+        let mut noise = Noise::new(11);
+        for i in 0..90 {
+            let Call { slot, quotient, .. } = self.some(&mut noise, i);
+            t.take_out(slot, quotient);
+            t.sizes(low(noise.state, self.b));
+        }
+        self.report(rt, &t, "at random")
     }
-    report(rt, &t, "the 49th entry", k, v, b)
+
+    /// A group takes 48 entries and refuses the 49th, until one is removed.
+    fn forty_ninth(self, rt: &HostRuntime) -> io::Result<()> {
+        let mut t = self.formed(rt)?;
+        let first = self.last_group();
+        let most = low(u64::MAX, self.v);
+        for i in 0..48u64 {
+            let value = low(u64::MAX.wrapping_sub(i), self.v);
+            t.put(first | (i * 7) % 16, i / 16, value)?;
+        }
+        t.put(first | 3, 3, 0)?;
+        t.put(first | 15, 3, most)?;
+        t.put(first | 3, 1, 0)?;
+        t.take_out(first, 3);
+        t.take_out(first, 1);
+        t.put(first | 3, 3, most)?;
+        t.put(first, 1, 0)?;
+        for i in 0..16u64 {
+            t.sizes(first | i);
+        }
+        self.report(rt, &t, "the 49th entry")
+    }
+
+    /// 48 entries in the last slot of a group, taken out from the front, the end and the middle.
+    fn last_slot(self, rt: &HostRuntime) -> io::Result<()> {
+        let mut t = self.formed(rt)?;
+        for i in 0..48u64 {
+            t.put(15, 63 - i, low(i.wrapping_mul(99_991), self.v))?;
+        }
+        t.sizes(15);
+        t.sizes(0);
+        t.put(0, 0, 0)?;
+        t.entry(15, 0, Ok((63, 0)));
+        t.entry(15, 47, Ok((16, low(47 * 99_991, self.v))));
+        t.entry(15, 48, Err(OutOfRange));
+        t.take_out(15, 63);
+        t.take_out(15, 16);
+        t.take_out(15, 40);
+        t.take_out(15, 40);
+        t.entry(15, 44, Ok((17, low(46 * 99_991, self.v))));
+        t.put(14, 1, low(u64::MAX, self.v))?;
+        t.add(power(self.b), 0, 0, Err(OutOfRange))?;
+        t.add(0, power(self.k.saturating_sub(self.b)), 0, Err(OutOfRange))?;
+        t.sizes(15);
+        self.report(rt, &t, "48 entries in slot 15")
+    }
 }
 
-/// 48 entries in the last slot of a group, taken out from the front, the end and the middle.
-fn last_slot(rt: &HostRuntime, k: u32, v: u32, b: u32) -> io::Result<()> {
-    let mut t = Pair::new(rt, words(k, v, b), k, v, b)?;
-    for i in 0..48u64 {
-        t.add(15, 63 - i, low(i.wrapping_mul(99_991), v))?;
+/// What a table of 32 slots holds: slot 1 has two entries, slot 2 one, slot 20 one.
+const HELD: [Entry; 4] = [
+    Entry {
+        slot: 1,
+        quotient: 9,
+        value: 90,
+    },
+    Entry {
+        slot: 1,
+        quotient: 8,
+        value: 92,
+    },
+    Entry {
+        slot: 2,
+        quotient: 9,
+        value: 91,
+    },
+    Entry {
+        slot: 20,
+        quotient: 32_767,
+        value: 16_777_215,
+    },
+];
+
+/// How many words, the widths, and whether these fit.
+const FITS: [(usize, u32, u32, u32, bool); 12] = [
+    (31, 20, 24, 4, true),
+    (62, 20, 24, 5, true),
+    (30, 20, 24, 4, false),
+    (61, 20, 24, 5, false),
+    (1000, 20, 24, 3, false),
+    (1000, 20, 24, 21, false),
+    (1000, 33, 24, 4, false),
+    (1000, 20, 33, 4, false),
+    (1000, 4, 24, 4, false),
+    (1000, u32::MAX, u32::MAX, u32::MAX, false),
+    (2, 5, 0, 4, true),
+    (1, 5, 0, 4, false),
+];
+
+/// Damaged words: two blocks of 31, with quotients of 15 bits and values of 24, and three words past them.
+fn damaged(rt: &HostRuntime) -> io::Result<()> {
+    let mut t = Damage::<PackedTable>::new(rt, 65, (20, 24, 5), &HELD)?;
+    t.kept(&[HELD[1], HELD[3]])?;
+    for (words, k, v, b, fits) in FITS {
+        let words = vec![in rt.alloc(); 0u64; words]?;
+        if fits {
+            t.empty(words, k, v, b);
+        } else {
+            t.unfit(words, k, v, b);
+        }
     }
-    t.sizes(15);
-    t.sizes(0);
-    t.add(0, 0, 0)?;
-    t.entry(15, 0, 63, 0);
-    t.entry(15, 47, 16, low(47 * 99_991, v));
-    t.entry(15, 48, 2, 1000);
-    t.remove(15, 63);
-    t.remove(15, 16);
-    t.remove(15, 40);
-    t.remove(15, 40);
-    t.entry(15, 44, 17, low(46 * 99_991, v));
-    t.add(14, 1, low(u64::MAX, v))?;
-    t.refused(1 << (b % 32), 0, 0);
-    t.refused(0, 1 << (k.saturating_sub(b) % 32), 0);
-    t.sizes(15);
-    report(rt, &t, "48 entries in slot 15", k, v, b)
+    t.show(rt, "sound words, and which widths fit")?;
+    t.wrong(0, 0x1_FFFF_FFFF_FFFF, 0)?;
+    t.wrong(31, u64::MAX, 1)?;
+    t.wrong_bit(0, 63, 0)?;
+    t.wrong_bit(0, 19, 0)?;
+    t.wrong_bit(31, 17, 1)?;
+    t.wrong(0, 0, 0)?;
+    t.wrong(31, 0, 1)?;
+    t.show(rt, "damaged marks")?;
+    t.wrong_bit(1, 45, 0)?;
+    t.wrong_bit(1, 720, 0)?;
+    t.wrong_bit(1, 767, 0)?;
+    t.wrong_bit(13, 72, 0)?;
+    t.wrong_bit(13, 1151, 0)?;
+    t.wrong_bit(32, 15, 1)?;
+    t.wrong_bit(44, 24, 1)?;
+    t.wrong_bit(62, 0, 2)?;
+    t.wrong_bit(64, 63, 2)?;
+    t.show(rt, "bits and words past the last")?;
+    t.wrong_bit(1, 15, 0)?;
+    t.show(rt, "a quotient twice in a slot")
 }
+
+/// The widths over which each run goes.
+const WALKS: [Widths; 7] = [
+    Widths { k: 20, v: 24, b: 4 },
+    Widths { k: 20, v: 24, b: 5 },
+    Widths { k: 32, v: 32, b: 4 },
+    Widths { k: 9, v: 0, b: 5 },
+    Widths { k: 5, v: 7, b: 4 },
+    Widths { k: 7, v: 32, b: 6 },
+    Widths { k: 6, v: 0, b: 5 },
+];
+
+const FULL: [Widths; 4] = [
+    Widths { k: 20, v: 24, b: 4 },
+    Widths { k: 32, v: 32, b: 4 },
+    Widths { k: 8, v: 0, b: 5 },
+    Widths { k: 6, v: 1, b: 4 },
+];
+
+const LAST: [Widths; 3] = [
+    Widths { k: 20, v: 24, b: 4 },
+    Widths { k: 32, v: 32, b: 4 },
+    Widths { k: 11, v: 0, b: 5 },
+];
 
 /// Runs all of it.
 pub fn run(rt: &HostRuntime) -> io::Result<()> {
-    walk(rt, 20, 24, 4)?;
-    walk(rt, 20, 24, 5)?;
-    walk(rt, 32, 32, 4)?;
-    walk(rt, 9, 0, 5)?;
-    walk(rt, 5, 7, 4)?;
-    walk(rt, 7, 32, 6)?;
-    walk(rt, 6, 0, 5)?;
-    forty_ninth(rt, 20, 24, 4)?;
-    forty_ninth(rt, 32, 32, 4)?;
-    forty_ninth(rt, 8, 0, 5)?;
-    forty_ninth(rt, 6, 1, 4)?;
-    last_slot(rt, 20, 24, 4)?;
-    last_slot(rt, 32, 32, 4)?;
-    last_slot(rt, 11, 0, 5)?;
-    damage::run(rt)
+    for widths in WALKS {
+        widths.walk(rt)?;
+    }
+    for widths in FULL {
+        widths.forty_ninth(rt)?;
+    }
+    for widths in LAST {
+        widths.last_slot(rt)?;
+    }
+    damaged(rt)
 }

@@ -1,8 +1,8 @@
 //! Runs that are held, cancelled, refused.
-use crate::compare::ended;
 use crate::mirror::{by_table, refused_at};
+use crate::report::Report;
 use crate::settings::{packed_table, plain_table};
-use crate::worked::{PITCH, follow, on_both, stopped};
+use crate::worked::{PITCH, stopped};
 use coding::{CardCoding, LoanCoding};
 use model::answer::Answer::{Entry, Number, Refused, Value};
 use model::call::Call::{At, Cancel, Count, Find, Open, Take};
@@ -11,9 +11,8 @@ use permutation::Identity;
 use register::{Parts, Register};
 use std::io;
 use table::refusal::TableRefusal;
-use tally::tally::Tally;
 
-pub fn held_night(rt: &HostRuntime, total: &mut Tally) -> io::Result<()> {
+pub fn held_night(report: &mut Report<'_>) -> io::Result<()> {
     let steps = [
         (Open(4), Number(4)),
         (Take(PITCH + 12, 1, 8), Number(1)),
@@ -24,10 +23,10 @@ pub fn held_night(rt: &HostRuntime, total: &mut Tally) -> io::Result<()> {
         (Find(PITCH + 13), by_table(TableRefusal::Absent)),
         (Count, Number(1)),
     ];
-    on_both(rt, "nights 10 to 13, with night 12 held", &steps, total)
+    report.on_both("nights 10 to 13, with night 12 held", &steps)
 }
 
-pub fn cancelled(rt: &HostRuntime, total: &mut Tally) -> io::Result<()> {
+pub fn cancelled(report: &mut Report<'_>) -> io::Result<()> {
     let steps = [
         (Open(4), Number(4)),
         (Take(PITCH, 3, 7), Number(3)),
@@ -40,10 +39,10 @@ pub fn cancelled(rt: &HostRuntime, total: &mut Tally) -> io::Result<()> {
         (At(2), Entry(PITCH + 2, 8)),
         (At(3), Refused(Refusal::NoSuchPlace)),
     ];
-    on_both(rt, "the same cancel twice", &steps, total)
+    report.on_both("the same cancel twice", &steps)
 }
 
-pub fn lengths_and_values(rt: &HostRuntime, total: &mut Tally) -> io::Result<()> {
+pub fn lengths_and_values(report: &mut Report<'_>) -> io::Result<()> {
     let lengths = [
         (Open(4), Number(4)),
         (Take(PITCH, 0, 7), refused_at(0, Refusal::RunLength)),
@@ -53,7 +52,7 @@ pub fn lengths_and_values(rt: &HostRuntime, total: &mut Tally) -> io::Result<()>
         (Take(PITCH + 732, 65, 0), refused_at(0, Refusal::RunLength)),
         (Take(PITCH, 1, 7), Number(1)),
     ];
-    on_both(rt, "runs of 0 and of 65", &lengths, total)?;
+    report.on_both("runs of 0 and of 65", &lengths)?;
     let values = [
         (Open(4), Number(4)),
         (Take(PITCH, 1, 0), refused_at(0, Refusal::UnknownValue)),
@@ -66,10 +65,10 @@ pub fn lengths_and_values(rt: &HostRuntime, total: &mut Tally) -> io::Result<()>
         (Cancel(PITCH, 1, 0), refused_at(0, Refusal::UnknownValue)),
         (Find(PITCH + 1), Value(9_999_999)),
     ];
-    on_both(rt, "bookings 0 and 10,000,000", &values, total)
+    report.on_both("bookings 0 and 10,000,000", &values)
 }
 
-pub fn last_nights(rt: &HostRuntime, total: &mut Tally) -> io::Result<()> {
+pub fn last_nights(report: &mut Report<'_>) -> io::Result<()> {
     let steps = [
         (Open(4), Number(4)),
         (Take(PITCH + 730, 3, 5), refused_at(2, Refusal::UnknownKey)),
@@ -83,12 +82,12 @@ pub fn last_nights(rt: &HostRuntime, total: &mut Tally) -> io::Result<()> {
             refused_at(2, Refusal::UnknownKey),
         ),
     ];
-    on_both(rt, "nights from 730 on", &steps, total)
+    report.on_both("nights from 730 on", &steps)
 }
 
-pub fn cards(rt: &HostRuntime, total: &mut Tally) -> io::Result<()> {
+pub fn cards(report: &mut Report<'_>) -> io::Result<()> {
     let Ok(same) = Identity::new(32) else {
-        return total.unmade(rt);
+        return report.unmade();
     };
     let steps = [
         (Open(4), Number(4)),
@@ -106,9 +105,8 @@ pub fn cards(rt: &HostRuntime, total: &mut Tally) -> io::Result<()> {
         (Take(1, 1, 2_047_415), Number(1)),
         (At(0), Entry(1, 2_047_415)),
     ];
-    let mut tally = Tally::new();
-    let one = packed_table(rt, 150)?;
-    let other = plain_table(rt, 1030)?;
+    let one = packed_table(report.rt, 150)?;
+    let other = plain_table(report.rt, 1030)?;
     let register = Register::assemble(Parts {
         keys: CardCoding,
         values: LoanCoding,
@@ -116,6 +114,6 @@ pub fn cards(rt: &HostRuntime, total: &mut Tally) -> io::Result<()> {
         first: one,
         second: other,
     });
-    follow(rt, &mut tally, register, &steps)?;
-    ended(rt, "card 0, and the last card", &tally, total)
+    report.follow(register, &steps)?;
+    report.ended("card 0, and the last card")
 }

@@ -1,20 +1,19 @@
 //! Full groups, enlargements, and what is made of tables.
-use crate::compare::ended;
 use crate::machine::Machine;
 use crate::mirror::{by_table, refused_at};
+use crate::report::Report;
 use crate::settings::{packed_table, plain_table};
-use crate::worked::{LAST_PITCH, PITCH, follow, nights, on_both, on_packed, on_plain, stopped};
+use crate::worked::{LAST_PITCH, PITCH, nights, stopped};
 use model::answer::Answer::{Entry, Number, Refused, Value};
 use model::call::Call::{At, Cancel, Count, Enlarge, Find, Open, Take};
 use model::refusal::Refusal;
 use permutation::Identity;
+use register::Side;
 use std::io;
 use table::refusal::TableRefusal;
 use table::table::Table;
-use tally::tally::Tally;
 
-pub fn full_groups(rt: &HostRuntime, total: &mut Tally) -> io::Result<()> {
-    let mut tally = Tally::new();
+pub fn full_groups(report: &mut Report<'_>) -> io::Result<()> {
     let steps = [
         (Open(5), Number(5)),
         (Take(PITCH, 48, 5), Number(48)),
@@ -27,9 +26,8 @@ pub fn full_groups(rt: &HostRuntime, total: &mut Tally) -> io::Result<()> {
         (Take(PITCH + 48, 1, 5), Number(1)),
         (Count, Number(48)),
     ];
-    on_packed(rt, &mut tally, &steps)?;
-    ended(rt, "the 49th entry of a packed group", &tally, total)?;
-    let mut tally = Tally::new();
+    report.on_packed(&steps)?;
+    report.ended("the 49th entry of a packed group")?;
     let steps = [
         (Open(4), Number(4)),
         (Take(PITCH, 15, 5), Number(15)),
@@ -42,11 +40,11 @@ pub fn full_groups(rt: &HostRuntime, total: &mut Tally) -> io::Result<()> {
         (Take(PITCH + 15, 1, 5), Number(1)),
         (Count, Number(15)),
     ];
-    on_plain(rt, &mut tally, &steps)?;
-    ended(rt, "the 16th entry of a plain slot", &tally, total)
+    report.on_plain(&steps)?;
+    report.ended("the 16th entry of a plain slot")
 }
 
-pub fn opened_twice(rt: &HostRuntime, total: &mut Tally) -> io::Result<()> {
+pub fn opened_twice(report: &mut Report<'_>) -> io::Result<()> {
     let steps = [
         (Open(32), by_table(TableRefusal::DoesNotFit)),
         (Take(PITCH + 732, 1, 0), refused_at(0, Refusal::UnknownKey)),
@@ -62,10 +60,10 @@ pub fn opened_twice(rt: &HostRuntime, total: &mut Tally) -> io::Result<()> {
         (Open(5), Refused(Refusal::AlreadyOpen)),
         (Open(32), Refused(Refusal::AlreadyOpen)),
     ];
-    on_both(rt, "closed, and opened twice", &steps, total)
+    report.on_both("closed, and opened twice", &steps)
 }
 
-pub fn unequal_widths(rt: &HostRuntime, total: &mut Tally) -> io::Result<()> {
+pub fn unequal_widths(report: &mut Report<'_>) -> io::Result<()> {
     let steps = [
         (Count, Number(0)),
         (Open(4), Refused(Refusal::PermutationWidth)),
@@ -73,21 +71,18 @@ pub fn unequal_widths(rt: &HostRuntime, total: &mut Tally) -> io::Result<()> {
         (Take(PITCH, 1, 5), refused_at(0, Refusal::Closed)),
         (Count, Number(0)),
     ];
-    let mut tally = Tally::new();
-    for width in 19..22 {
-        if width != 20 {
-            let Ok(same) = Identity::new(width) else {
-                return total.unmade(rt);
-            };
-            let one = packed_table(rt, 150)?;
-            let other = plain_table(rt, 1030)?;
-            follow(rt, &mut tally, nights(same, one, other), &steps)?;
-        }
+    for width in [19, 21] {
+        let Ok(same) = Identity::new(width) else {
+            return report.unmade();
+        };
+        let one = packed_table(report.rt, 150)?;
+        let other = plain_table(report.rt, 1030)?;
+        report.follow(nights(same, one, other), &steps)?;
     }
-    ended(rt, "a permutation of another width", &tally, total)
+    report.ended("a permutation of another width")
 }
 
-pub fn enlarged(rt: &HostRuntime, total: &mut Tally) -> io::Result<()> {
+pub fn enlarged(report: &mut Report<'_>) -> io::Result<()> {
     let steps = [
         (Open(4), Number(4)),
         (Take(LAST_PITCH, 2, 9), Number(2)),
@@ -101,9 +96,9 @@ pub fn enlarged(rt: &HostRuntime, total: &mut Tally) -> io::Result<()> {
         (At(0), Entry(PITCH, 7)),
         (At(3), Entry(LAST_PITCH, 9)),
     ];
-    on_both(rt, "two enlargements in a row", &steps, total)?;
+    report.on_both("two enlargements in a row", &steps)?;
     let Ok(same) = Identity::new(20) else {
-        return total.unmade(rt);
+        return report.unmade();
     };
     let steps = [
         (Open(4), Number(4)),
@@ -116,37 +111,33 @@ pub fn enlarged(rt: &HostRuntime, total: &mut Tally) -> io::Result<()> {
         (Enlarge, by_table(TableRefusal::DoesNotFit)),
         (Find(PITCH + 15), Value(7)),
     ];
-    let mut tally = Tally::new();
-    let one = packed_table(rt, 150)?;
-    let other = plain_table(rt, 1030)?;
-    follow(rt, &mut tally, nights(same, one, other), &steps)?;
-    ended(rt, "enlargements without room or fit", &tally, total)
+    let one = packed_table(report.rt, 150)?;
+    let other = plain_table(report.rt, 1030)?;
+    report.follow(nights(same, one, other), &steps)?;
+    report.ended("enlargements without room or fit")
 }
 
 /// Whether all words are zero.
 fn is_clear(words: &[u64]) -> bool {
-    let mut clear = true;
-    for word in words.iter() {
-        if *word != 0 {
-            clear = false;
-        }
-    }
-    clear
+    words.iter().all(|word| *word == 0)
 }
 
 /// Tables that were formed and filled are cleared by the register that is made of them.
-pub fn filled_before(rt: &HostRuntime, total: &mut Tally) -> io::Result<()> {
+pub fn filled_before(report: &mut Report<'_>) -> io::Result<()> {
     let Ok(same) = Identity::new(20) else {
-        return total.unmade(rt);
+        return report.unmade();
     };
-    let mut tally = Tally::new();
-    let mut one = packed_table(rt, 150)?;
-    let mut other = plain_table(rt, 1030)?;
+    let mut one = packed_table(report.rt, 150)?;
+    let mut other = plain_table(report.rt, 1030)?;
     let formed = one.form(20, 24, 5).is_ok() && other.form(20, 24, 6).is_ok();
-    tally.count(formed && one.add(3, 17, 9).is_ok() && other.add(3, 17, 9).is_ok());
-    tally.count(!is_clear(one.words()) && !is_clear(other.words()));
+    report.part.count(formed && one.add(3, 17, 9).is_ok() && other.add(3, 17, 9).is_ok());
+    report
+        .part
+        .count(!is_clear(one.words()) && !is_clear(other.words()));
     let register = nights(same, one, other);
-    tally.count(is_clear(register.first_words()) && is_clear(register.second_words()));
+    report.part.count(
+        is_clear(register.words(Side::First)) && is_clear(register.words(Side::Second)),
+    );
     let steps = [
         (Count, Number(0)),
         (Open(5), Number(5)),
@@ -155,6 +146,6 @@ pub fn filled_before(rt: &HostRuntime, total: &mut Tally) -> io::Result<()> {
         (Take(98_321, 1, 8), Number(1)),
         (Find(98_321), Value(8)),
     ];
-    follow(rt, &mut tally, register, &steps)?;
-    ended(rt, "tables that were filled before", &tally, total)
+    report.follow(register, &steps)?;
+    report.ended("tables that were filled before")
 }

@@ -1,0 +1,6 @@
+pub mod Blocks
+pub mod Held
+pub mod Kinds
+pub mod Noise
+pub mod Refusals
+pub mod Words

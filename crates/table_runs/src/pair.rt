@@ -1,0 +1,134 @@
+//! A table beside the plain list of entries that it should hold; after each call the words are compared.
+use crate::content::Content;
+use crate::tried::Tried;
+use expected::layout::{Entry, Layout};
+use expected::refusals::table_number;
+use std::io;
+use table::refusal::TableRefusal;
+use tally::tally::Tally;
+
+/// The table, the list, and how often a slot held the quotient and a group was full.
+#[derive(Drop)]
+pub struct Pair<T: Tried> {
+    table: T,
+    pub content: Content,
+    pub tally: Tally,
+    pub held: u64,
+    pub full: u64,
+}
+
+/// Whether an answer is the wanted one, and its refusal has its number.
+pub fn is<V: PartialEq + Drop>(
+    got: Result<V, TableRefusal>,
+    want: Result<V, TableRefusal>,
+) -> bool {
+    got == want
+        && got
+            .err()
+            .is_none_or(|why| why.number() == table_number(why))
+}
+
+/// How a table of these widths stands in its words.
+pub fn layout<T: Tried>(k: u32, v: u32, b: u32) -> Layout {
+    Layout {
+        kind: T::kind(),
+        quotient: k.saturating_sub(b),
+        value: v,
+    }
+}
+
+impl<T: Tried> Pair<T> {
+    /// An unformed table over so many words, which were not zero.
+    pub fn new(rt: &HostRuntime, words: usize) -> io::Result<Pair<T>> {
+        Ok(Pair {
+            table: T::over(vec![in rt.alloc(); 7u64; words]?),
+            content: Content::new(rt.alloc(), layout::<T>(0, 0, 0)),
+            tally: Tally::new(),
+            held: 0,
+            full: 0,
+        })
+    }
+
+    /// Counts a case that came out right where this holds and the table's words are those of the entries.
+    fn count(&mut self, right: bool) {
+        let words = self
+            .content
+            .layout
+            .has_words(&self.content.entries, self.table.shown());
+        self.tally.count(right && words);
+    }
+
+    /// Forms the table, and expects this.
+    pub fn form(&mut self, k: u32, v: u32, b: u32, want: Result<(), TableRefusal>) {
+        let got = self.table.form(k, v, b);
+        if want.is_ok() {
+            self.content.formed(layout::<T>(k, v, b));
+        }
+        self.count(is(got, want));
+    }
+
+    /// Adds an entry, and expects this.
+    pub fn add(
+        &mut self,
+        slot: u64,
+        quotient: u64,
+        value: u64,
+        want: Result<(), TableRefusal>,
+    ) -> io::Result<()> {
+        let before = self.table.admits(slot, quotient, value, 0);
+        let got = self.table.add(slot, quotient, value);
+        match want {
+            Ok(()) => self.content.add(Entry {
+                slot,
+                quotient,
+                value,
+            })?,
+            Err(TableRefusal::Held) => self.held = self.held.saturating_add(1),
+            Err(TableRefusal::Full) => self.full = self.full.saturating_add(1),
+            Err(_) => {}
+        }
+        self.count(is(got, want) && is(before, want));
+        Ok(())
+    }
+
+    /// Adds an entry, and expects what the list answers.
+    pub fn put(&mut self, slot: u64, quotient: u64, value: u64) -> io::Result<()> {
+        let want = self.content.admits(slot, quotient);
+        self.add(slot, quotient, value, want)
+    }
+
+    /// Removes an entry, and expects this.
+    pub fn remove(&mut self, slot: u64, quotient: u64, want: Result<u64, TableRefusal>) {
+        let found = self.table.find(slot, quotient);
+        let got = self.table.remove(slot, quotient);
+        if want.is_ok() {
+            self.content.remove(slot, quotient);
+        }
+        self.count(is(got, want) && is(found, want));
+    }
+
+    /// Removes an entry, and expects what the list answers.
+    pub fn take_out(&mut self, slot: u64, quotient: u64) {
+        let want = self.content.find(slot, quotient);
+        self.remove(slot, quotient, want);
+    }
+
+    /// Asks for a slot's size, and expects this.
+    pub fn size(&mut self, slot: u64, want: Result<u64, TableRefusal>) {
+        let got = self.table.size(slot);
+        self.tally.count(is(got, want));
+    }
+
+    /// Compares the size of a slot and the load of its group with the list's.
+    pub fn sizes(&mut self, slot: u64) {
+        let size = is(self.table.size(slot), Ok(self.content.size(slot)));
+        let load = is(self.table.load(slot), Ok(self.content.load(slot)));
+        self.tally.count(size && load);
+    }
+
+    /// Asks for the entry at a place, and expects this quotient and value.
+    pub fn entry(&mut self, slot: u64, i: u64, want: Result<(u64, u64), TableRefusal>) {
+        let got = self.table.entry(slot, i);
+        self.tally.count(is(got, want));
+    }
+}
