@@ -83,9 +83,7 @@ impl<'a> Report<'a> {
         } = self.part;
         self.total.cases = self.total.cases.saturating_add(cases);
         self.total.wrong = self.total.wrong.saturating_add(wrong);
-        if self.total.first == 0 {
-            self.total.first = first;
-        }
+        self.total.first = self.total.first.or(first);
         self.part.show(self.rt, what)?;
         self.part = Tally::new();
         Ok(())
