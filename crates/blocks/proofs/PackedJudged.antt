@@ -54,7 +54,7 @@ module _ (k v b : ℕ) (block : List ℕ) (mb : MarkedBlock k v b block) where
     -- each quotient stands first at its own place, or one does not
     pub apart_decided : (n : ℕ) → n ≡ length (get_or (slots_of 1 k v b block) j []) → (r : Bool)
         → MatchBool r (AllWithin (λ x. First (get_or (slots_of 1 k v b block) j []) (get_or (get_or (slots_of 1 k v b block) j []) x (0, 0)).0 x) (range_with_len 0 n) 0 (length (range_with_len 0 n)))
-          ((i : ℕ) × (i < length (range_with_len 0 n)) × HoldsAt (λ x. First (get_or (slots_of 1 k v b block) j []) (get_or (get_or (slots_of 1 k v b block) j []) x (0, 0)).0 x → ⊥) (range_with_len 0 n) i)
+        ((i : ℕ) × (i < length (range_with_len 0 n)) × HoldsAt (λ x. First (get_or (slots_of 1 k v b block) j []) (get_or (get_or (slots_of 1 k v b block) j []) x (0, 0)).0 x → ⊥) (range_with_len 0 n) i)
         → Decides r (Good (k - b) v (get_or (slots_of 1 k v b block) j []))
     apart_decided n ns r m =
         let es = get_or (slots_of 1 k v b block) j [] in

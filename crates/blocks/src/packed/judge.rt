@@ -27,17 +27,19 @@ fn all_apart(block: &[u64], shape: Shape) -> bool
     requires { MarkedBlock shape.k shape.v shape.b block.now }
     ensures value { Decides result ((j : ℕ) → j < 16 → Good (shape.k - shape.b) shape.v (slice_index_or (slots_of 1 shape.k shape.v shape.b block.now) j [])) }
 {
-    (0..SLOTS).all(|slot| -> bool
-        requires marked { MarkedBlock shape.k shape.v shape.b block.now }
-        requires below { slot < 16 }
-    {
-        apart(&Slot {
-            block,
-            shape,
-            slot,
-            kind: PhantomData,
-        })
-    })
+    (0..SLOTS).all(
+        |slot| -> bool
+            requires marked { MarkedBlock shape.k shape.v shape.b block.now }
+            requires below { slot < 16 }
+        {
+            apart(&Slot {
+                block,
+                shape,
+                slot,
+                kind: PhantomData,
+            })
+        },
+    )
 }
 
 /// Whether a block's areas are zero past as many fields as it has marks.

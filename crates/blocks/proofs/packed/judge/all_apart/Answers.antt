@@ -1,4 +1,4 @@
-use Rattle.std.proofs.Common.{◌≡◌, ◌-◌, [], get_or, refl, arith, rules}
+use Rattle.std.proofs.Common.{◌-◌, [], get_or, refl, rules}
 use Rattle.std.proofs.lemmas.Iterator.{cases_from_all, YieldsList-from_range}
 use Rattle.std.proofs.lemmas.Bool.Decides.{not_from_Decides}
 use borrow.Author.Tests.{tests}
