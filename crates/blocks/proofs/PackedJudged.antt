@@ -5,7 +5,7 @@ use lib.Pow.{split}
 use Rattle.std.specs.List.{range_with_len, AllWithin, HoldsAt}
 use Rattle.std.specs.Bool.{MatchBool}
 use Rattle.std.proofs.lemmas.Bool.{le-leb}
-use Rattle.std.proofs.lemmas.Bool.Decides.{not_from_Decides}
+use Rattle.std.proofs.lemmas.Bool.Decides.{not_from_Decides, Decides-like}
 use Rattle.std.proofs.lemmas.List.{ext_get_or, length-map, get_or-map}
 use Rattle.std.proofs.lemmas.List.FromFn.{get_or-map-range_with_len, length-range_with_len, get_or-range_with_len}
 use Rattle.bits.specs.Area.{number, words_of, field, fields, packed}
@@ -26,6 +26,18 @@ use Rattle.blocks.specs.Areas.{parts_of, block_parts, block_is}
 use Rattle.blocks.specs.Views.{entry_is, slots_sixteen, total_few, word_marks, entries_are, A, B}
 use Rattle.blocks.specs.Stored.{quotients_given, values_given}
 
+-- a test of every number below n
+pub below_decided : (P : ℕ → Type 0) (n : ℕ) (r : Bool)
+    → MatchBool r (AllWithin P (range_with_len 0 n) 0 (length (range_with_len 0 n))) ((i : ℕ) × (i < length (range_with_len 0 n)) × HoldsAt (λ x. P x → ⊥) (range_with_len 0 n) i)
+    → Decides r ((j : ℕ) → j < n → P j)
+below_decided P n true m = shown _ (λ j h.
+    let at : get_or (range_with_len 0 n) j 0 ≡ j = get_or-range_with_len 0 n j 0 h ∙ omega arith in
+    subst P at (m j 0 (omega arith) (omega (arith, length-range_with_len 0 n))))
+below_decided P n false m = refuted _ (λ all.
+    let h : m.0 < n = omega (arith, length-range_with_len 0 n, m.1) in
+    let at : get_or (range_with_len 0 n) m.0 0 ≡ m.0 = get_or-range_with_len 0 n m.0 0 h ∙ omega arith in
+    m.2 0 (subst P (sym at) (all m.0 h)))
+
 module _ (k v b : ℕ) (block : List ℕ) (mb : MarkedBlock k v b block) where
   -- ---- one slot
 
@@ -39,32 +51,17 @@ module _ (k v b : ℕ) (block : List ℕ) (mb : MarkedBlock k v b block) where
       apart = inv;
     }
 
-    -- each quotient stands first at its own place
-    pub each_first : ((i : ℕ) → i < length (get_or (slots_of 1 k v b block) j []) → First (get_or (slots_of 1 k v b block) j []) (get_or (get_or (slots_of 1 k v b block) j []) i (0, 0)).0 i)
-        → Decides true (Good (k - b) v (get_or (slots_of 1 k v b block) j []))
-    each_first f = shown _ (good_from (λ m n mn nl same. (f n nl).before m mn same))
-
-    -- one does not
-    pub one_later : (i : ℕ) → i < length (get_or (slots_of 1 k v b block) j []) → (First (get_or (slots_of 1 k v b block) j []) (get_or (get_or (slots_of 1 k v b block) j []) i (0, 0)).0 i → ⊥)
-        → Decides false (Good (k - b) v (get_or (slots_of 1 k v b block) j []))
-    one_later i h later = refuted _ (λ g. later (record { inside = h; here = refl; before = λ a al e. g.apart a i al h e }))
-
-    -- what a test of every place decides
+    -- each quotient stands first at its own place, or one does not
     pub apart_decided : (n : ℕ) → n ≡ length (get_or (slots_of 1 k v b block) j []) → (r : Bool)
         → MatchBool r (AllWithin (λ x. First (get_or (slots_of 1 k v b block) j []) (get_or (get_or (slots_of 1 k v b block) j []) x (0, 0)).0 x) (range_with_len 0 n) 0 (length (range_with_len 0 n)))
         ((i : ℕ) × (i < length (range_with_len 0 n)) × HoldsAt (λ x. First (get_or (slots_of 1 k v b block) j []) (get_or (get_or (slots_of 1 k v b block) j []) x (0, 0)).0 x → ⊥) (range_with_len 0 n) i)
         → Decides r (Good (k - b) v (get_or (slots_of 1 k v b block) j []))
-    apart_decided n ns true m = each_first (λ i h.
+    apart_decided n ns r m =
         let es = get_or (slots_of 1 k v b block) j [] in
-        let l : i < n = omega (arith, ns) in
-        let at : get_or (range_with_len 0 n) i 0 ≡ i = get_or-range_with_len 0 n i 0 l ∙ omega arith in
-        subst (λ x. First es (get_or es x (0, 0)).0 x) at (m i 0 (omega arith) (omega (arith, length-range_with_len 0 n))))
-    apart_decided n ns false m =
-        let es = get_or (slots_of 1 k v b block) j [] in
-        let i = m.0 in
-        let l : i < n = omega (arith, length-range_with_len 0 n, m.1) in
-        let at : get_or (range_with_len 0 n) i 0 ≡ i = get_or-range_with_len 0 n i 0 l ∙ omega arith in
-        one_later i (omega (arith, ns)) (subst (λ x. First es (get_or es x (0, 0)).0 x → ⊥) at (m.2 0))
+        Decides-like r
+        (λ f. good_from (λ x y xy yl same. (f y (omega (arith, ns))).before x xy same))
+        (λ g i h. record { inside = omega (arith, ns); here = refl; before = λ a al e. g.apart a i al (omega (arith, ns)) e })
+        (below_decided (λ x. First es (get_or es x (0, 0)).0 x) n r m)
 
   -- ---- the areas
 

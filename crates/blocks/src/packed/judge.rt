@@ -27,19 +27,19 @@ fn all_apart(block: &[u64], shape: Shape) -> bool
     requires { MarkedBlock shape.k shape.v shape.b block.now }
     ensures value { Decides result ((j : ℕ) → j < 16 → Good (shape.k - shape.b) shape.v (slice_index_or (slots_of 1 shape.k shape.v shape.b block.now) j [])) }
 {
-    // A for over numbers: the closure of an all would make the slot, whose ghost fields want what only a clause of its own can say.
-    for slot in 0..SLOTS {
-        let at = Slot {
-            block,
-            shape,
-            slot,
-            kind: PhantomData,
-        };
-        if !apart(&at) {
-            return false;
-        }
-    }
-    true
+    (0..SLOTS).all(
+        |slot| -> bool
+            requires marked { MarkedBlock shape.k shape.v shape.b block.now }
+            requires below { slot < 16 }
+        {
+            apart(&Slot {
+                block,
+                shape,
+                slot,
+                kind: PhantomData,
+            })
+        },
+    )
 }
 
 /// Whether a block's areas are zero past as many fields as it has marks.

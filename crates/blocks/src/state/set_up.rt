@@ -33,9 +33,9 @@ impl<L: Blocks> BlockTable<L> {
         let Some(shape) = L::shape_for(words.len(), k, v, b) else {
             return BlockTable::set_up(words);
         };
-        let Ok(()) = BlockTable::<L>::scan(&words, shape) else {
+        if BlockTable::<L>::scan(&words, shape).is_err() {
             return BlockTable::set_up(words);
-        };
+        }
         BlockTable {
             words,
             shape: Some(shape),

@@ -1,5 +1,4 @@
-use Rattle.std.proofs.Common.{◌≡◌, ◌-◌, ◌*◌, ◌^◌, ◌≤◌, pow_mono, None, sym, ap, ◌∙◌, ⊎_elim, arith, rules}
-use Rattle.std.proofs.lemmas.Nat.{mul-le}
+use Rattle.std.proofs.Common.{◌≡◌, None, sym, ap, ◌∙◌, ⊎_elim, arith, rules}
 use Rattle.table.specs.Widths.{shape_where, widths}
 use Rattle.table.proofs.Shapes.{unshaped}
 use Rattle.blocks.specs.PackedLaws.{too_low, too_high, unbounded}
@@ -24,11 +23,3 @@ returns-then-count-width c =
 pub returns : goal.returns
 returns c =
     record { value = shape_for c.args.words c.args.k c.args.v c.args.b (omega arith) (omega arith) c.in_ok-shape.shape c.in_ok-shape.ensures.value c.count.result c.width.result c.count.ensures.value c.width.ensures.value (omega arith) }
-
-pub overflow_mul-count : goal.overflow_mul-count
-overflow_mul-count c =
-    let s = c.in_ok-shape.shape in
-    let l : s.b - 4 ≤ 28 = omega arith in
-    let p : 2 ^ (s.b - 4) ≤ 2 ^ 28 = pow_mono l in
-    let q : c.count.result * c.width.result ≤ 2 ^ 28 * 49 = mul-le _ _ (2 ^ 28) 49 (omega arith) (omega arith) in
-    omega arith

@@ -1,13 +1,15 @@
-use Rattle.std.proofs.Common.{arith, below_more}
+use Rattle.std.proofs.Common.{◌-◌, [], get_or, refl, rules}
+use Rattle.std.proofs.lemmas.Iterator.{cases_from_all, YieldsList-from_range}
 use Rattle.std.proofs.lemmas.Bool.Decides.{not_from_Decides}
-use Rattle.table.proofs.Decided.{refuted, shown}
+use borrow.Author.Tests.{tests}
+use Rattle.table.specs.Meaning.{Good}
+use Rattle.blocks.specs.PackedLayout.{slots_of}
+use Rattle.blocks.proofs.PackedJudged.{below_decided}
 use Rattle.blocks.proofs.packed.judge.all_apart.Goals as goal
 
-pub returns-then-not-apart : goal.returns-then-not-apart
-returns-then-not-apart c = record { value = refuted _ (λ all. not_from_Decides c.apart.result c.apart.ensures.value c.if-not-apart.true (all c.loop-slot.slot (omega arith))) }
-
-pub loop-slot-preserved : goal.loop-slot-preserved
-loop-slot-preserved c = below_more _ _ c.loop-slot.invariant (c.apart.ensures.value.0 c.if-not-apart.false)
-
 pub returns : goal.returns
-returns c = record { value = shown _ (λ j h. c.loop-slot.invariant j (omega arith)) }
+returns c =
+    let s = c.args.shape in let R = slots_of 1 s.k s.v s.b c.args.block.now in
+    let all = cases_from_all {v = λ x. x} _ _ c.all.result (λ j. Good (s.k - s.b) s.v (get_or R j [])) (λ j. Good (s.k - s.b) s.v (get_or R j []) → ⊥)
+    c.all.ensures.ran (YieldsList-from_range 0 16 16 refl refl) (λ x q k. search (rules, tests)) (λ x q k. search (rules, tests, not_from_Decides)) in
+    record { value = below_decided (λ j. Good (s.k - s.b) s.v (get_or R j [])) 16 c.all.result all }

@@ -11,9 +11,6 @@ returns-then-not-is_marks c =
     let s = c.args.shape in
     record { value = refuted _ (λ g. when_false _ _ c.if-not-is_marks.true c.is_marks.ensures (marked_given s.k s.v s.b c.args.block.now g).marked) }
 
-pub clean-requires : goal.clean-requires
-clean-requires c = record { long = c.requires; marked = when_true _ _ c.if-not-is_marks.false c.is_marks.ensures }
-
 pub returns-then-not-clean : goal.returns-then-not-clean
 returns-then-not-clean c =
     let s = c.args.shape in
@@ -23,9 +20,6 @@ returns-then-not-clean c =
           let cl = clean_given s.k s.v s.b c.args.block.now g m in
           not_from_Decides c.clean.result c.clean.ensures.value c.if-not-clean.true (cl.quotients, cl.values));
     }
-
-pub all_apart-requires : goal.all_apart-requires
-all_apart-requires c = record { long = c.requires; marked = when_true _ _ c.if-not-is_marks.false c.is_marks.ensures }
 
 pub returns : goal.returns
 returns c =

@@ -1,4 +1,4 @@
-use Rattle.std.proofs.Common.{length, replicate, None, vec_items, sym, refl, ap, ◌∙◌}
+use Rattle.std.proofs.Common.{length, replicate, None, vec_items, sym, ap, ◌∙◌}
 use Rattle.table.specs.Meaning.{unformed}
 use Rattle.table.proofs.Standing.{stands_none, refilled_stands}
 use Rattle.blocks.proofs.state.BlockTable.clear.Goals as goal
@@ -10,11 +10,3 @@ invariant_of-self g c =
     let st = stands_none g.L.Blocks.layout g.met.L.Blocks.lawful (length (vec_items t.words)) c.zero.new.words (c.zero.ensures.after ∙ ap (λ n. replicate n 0) same) in
     let full = refilled_stands g.L.Blocks.layout g.met.L.Blocks.lawful t.words None unformed c.zero.new.words (sym same ∙ c.deref_mut.ensures.len) st in
     record { well = ∣ full.well ∣₁; exact = full.exact }
-
-pub returns : goal.returns
-returns g c =
-    let t = c.args.self.now in
-    let same = ap length c.deref_mut.ensures.value in
-    let st = stands_none g.L.Blocks.layout g.met.L.Blocks.lawful (length (vec_items t.words)) c.zero.new.words (c.zero.ensures.after ∙ ap (λ n. replicate n 0) same) in
-    let full = refilled_stands g.L.Blocks.layout g.met.L.Blocks.lawful t.words None unformed c.zero.new.words (sym same ∙ c.deref_mut.ensures.len) st in
-    record { after = refl; len = full.long }

@@ -1,18 +1,8 @@
-use Rattle.std.proofs.Common.{◌≡◌, Some, None, Err, sym, refl, ap, ◌∙◌, rules}
-use Rattle.table.specs.declared.refusal.TableRefusal.TheVariants.{DoesNotFit}
+use Rattle.std.proofs.Common.{◌≡◌, Some, sym, ap, ◌∙◌, rules}
 use Rattle.table.specs.Widths.{widths}
-use Rattle.table.proofs.Setting.{form_step, form_refused}
+use Rattle.table.proofs.Setting.{form_step}
 use Rattle.blocks.specs.Means.{means}
 use Rattle.blocks.proofs.state.BlockTable.form.Goals as goal
-
-pub returns-in_err-shape : goal.returns-in_err-shape
-returns-in_err-shape g c =
-    let e : c.shape_for.result ≡ None = search rules in
-    let made = ap widths (sym e) ∙ c.shape_for.ensures.value in
-    let t = c.args.self.now in
-    let p = form_refused g.L.Blocks.layout g.met.L.Blocks.lawful c.args.k c.args.v c.args.b t.words (means t) c.len.result c.len.ensures made in
-    let r : c.from_residual.result ≡ Err DoesNotFit = search rules in
-    record { after = ap (λ x. x.0) p; value = r ∙ ap (λ x. x.1) p; len = refl }
 
 pub invariant_of-self : goal.invariant_of-self
 invariant_of-self g c =
