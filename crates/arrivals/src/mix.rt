@@ -23,8 +23,8 @@ pub fn mix<P: Permutation>(permutation: &P, key: u64) -> Mixed
 /// Times 648,053 plus 12,345 in 20 bits, then the XOR with a shift by 7.
 pub fn night_mix() -> Result<Chain<Affine, XorShift>, SetUpRefusal>
     ensures ok { is_ok result ≡ true }
-    ensures first { IfOk result (λ p. (p.first.width ≡ 20) × (p.first.multiplier ≡ 648053) × (p.first.increment ≡ 12345)) }
-    ensures second { IfOk result (λ p. (p.second.width ≡ 20) × (p.second.shift ≡ 7)) }
+    ensures first { IfOk result (λ p. (p.first.width.bits ≡ 20) × (p.first.multiplier ≡ 648053) × (p.first.increment ≡ 12345)) }
+    ensures second { IfOk result (λ p. (p.second.width.bits ≡ 20) × (p.second.shift ≡ 7)) }
 {
     let product = Affine::new(20, 648_053, 12_345)?;
     let shift = XorShift::new(20, 7)?;
