@@ -3,7 +3,7 @@ ghost use Rattle.std.specs.Prelude.{◌≡◌};
 
 use crate::compare::Pair;
 use crate::items::{Numbered, Spelled};
-use crate::machine::{Machine, Shown, store};
+use crate::machine::{Machine, store};
 use crate::mirror::{Mirror, Parts};
 use crate::report::Report;
 use crate::rules::Mix;
@@ -11,6 +11,7 @@ use crate::script::{Tide, some_call};
 use crate::settings::{CARDS, NIGHTS, SAME, Setting, chain, packed_table, plain_table};
 use coding::Coding;
 use expected::noise::Noise;
+use expected::shown::Shown;
 use model::answer::Answer;
 use model::call::Call;
 use model::refusal::Refusal;

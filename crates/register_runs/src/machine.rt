@@ -2,40 +2,11 @@
 use crate::items::{Numbered, Spelled};
 use crate::rules::Store;
 use coding::Coding;
-use expected::kind::Kind;
+use expected::shown::Shown;
 use model::answer::Answer;
 use model::call::Call;
-use blocks::{PackedTable, PlainTable};
 use permutation::Permutation;
 use register::{Register, Side};
-use table::table::Table;
-
-/// A table whose words can be looked at.
-pub trait Shown: Table {
-    fn kind() -> Kind;
-
-    fn shown(&self) -> &[u64];
-}
-
-impl Shown for PlainTable {
-    fn kind() -> Kind {
-        Kind::Plain
-    }
-
-    fn shown(&self) -> &[u64] {
-        self.words()
-    }
-}
-
-impl Shown for PackedTable {
-    fn kind() -> Kind {
-        Kind::Packed
-    }
-
-    fn shown(&self) -> &[u64] {
-        self.words()
-    }
-}
 
 /// What the formulas are told of a table.
 pub fn store<T: Shown>(table: &T) -> Store {

@@ -1,8 +1,9 @@
 //! What a register should answer: a list of what is held, in order of arrival, and formulas for where it stands.
 use crate::items::Sort;
 use crate::rules::{Mix, Store};
+use expected::held::{Held, load, value};
 use expected::layout::Entry;
-use expected::numbers::{power, rest, times};
+use expected::numbers::power;
 use model::answer::Answer;
 use model::call::Call;
 use model::refusal::Refusal;
@@ -10,14 +11,6 @@ use model::run_refusal::RunRefusal;
 use register::Side;
 use std::alloc::{AllocError, Global};
 use table::refusal::TableRefusal;
-
-/// A key number, its value number, and its permuted number.
-#[derive(Clone, Copy, PartialEq, Eq, Debug)]
-pub struct Held {
-    pub key: u64,
-    pub value: u64,
-    pub mixed: u64,
-}
 
 /// The n key numbers from m on, and a value number.
 #[derive(Clone, Copy, PartialEq, Eq, Debug)]
@@ -115,26 +108,15 @@ impl Mirror {
         self.opened.ok_or(Refusal::Closed)
     }
 
-    /// Where a key stands among 2^b slots.
-    fn entry(&self, held: Held, b: u32) -> Entry {
-        let quotients = power(self.parts.keys.width().saturating_sub(b));
-        Entry {
-            slot: times(held.mixed, quotients),
-            quotient: rest(held.mixed, quotients),
-            value: held.value,
-        }
+    /// How many quotients a slot has, at b.
+    fn quotients(&self, b: u32) -> u64 {
+        power(self.parts.keys.width().saturating_sub(b))
     }
 
     /// How many keys of the list stand in the group of one, at b.
     fn load(&self, held: Held, store: Store, b: u32) -> u64 {
-        let group = |e: Held| times(self.entry(e, b).slot, store.kind.group());
-        let own = group(held);
-        self.list.iter().filter(|e| group(**e) == own).count() as u64
-    }
-
-    /// The value number of a key number.
-    fn value(&self, key: u64) -> Option<u64> {
-        self.list.iter().find(|e| e.key == key).map(|e| e.value)
+        let size = self.quotients(b).saturating_mul(store.kind.group());
+        load(&self.list, size, held.mixed)
     }
 
     fn open(&mut self, b: u32) -> Result<Answer<u64>, Refusal> {
@@ -172,7 +154,7 @@ impl Mirror {
 
     /// What stands against one more key.
     fn against(&self, held: Held, opened: Opened) -> Result<(), Refusal> {
-        if self.value(held.key).is_some() {
+        if value(&self.list, held.key).is_some() {
             return Err(Refusal::Table(TableRefusal::Held));
         }
         let store = self.store(opened.side);
@@ -192,6 +174,7 @@ impl Mirror {
                 value: run.w,
                 mixed: self.parts.mix.of(key),
             };
+            // No `?`: what was taken is forgotten first, and memory that runs out is another error.
             if let Err(why) = self.against(held, opened) {
                 self.list.truncate(before);
                 return Ok(Err(why.at(place)));
@@ -203,7 +186,7 @@ impl Mirror {
 
     /// What stands against cancelling one key.
     fn against_cancel(&self, key: u64, w: u64) -> Result<(), Refusal> {
-        if self.value(key).ok_or(TableRefusal::Absent)? != w {
+        if value(&self.list, key).ok_or(TableRefusal::Absent)? != w {
             return Err(Refusal::OtherValue);
         }
         Ok(())
@@ -212,10 +195,10 @@ impl Mirror {
     /// Cancels a run.
     fn cancel(&mut self, run: Run) -> Result<(), RunRefusal> {
         self.read(run)?;
-        for place in 0..run.n {
-            self.against_cancel(run.m.saturating_add(place), run.w)
-                .map_err(|why| why.at(place))?;
-        }
+        (0..run.n).try_for_each(|place| {
+            let found = self.against_cancel(run.m.saturating_add(place), run.w);
+            found.map_err(|why| why.at(place))
+        })?;
         self.list
             .retain(|e| e.key < run.m || e.key - run.m >= run.n);
         Ok(())
@@ -226,21 +209,23 @@ impl Mirror {
             return Err(Refusal::UnknownKey);
         }
         self.in_use()?;
-        Ok(Answer::Value(self.value(m).ok_or(TableRefusal::Absent)?))
+        Ok(Answer::Value(value(&self.list, m).ok_or(TableRefusal::Absent)?))
     }
 
     /// What is held, slots upwards.
     fn walk(&self, b: u32) -> Result<Vec<Held>, AllocError> {
+        let quotients = self.quotients(b);
         let mut walk = self.list.clone()?;
-        walk.sort_by_key(|e| self.entry(*e, b).slot)?;
+        walk.sort_by_key(|e| e.entry(quotients).slot)?;
         Ok(walk)
     }
 
     /// The entries of a table with 2^b slots, slots upwards.
     pub fn entries(&self, heap: Global, b: u32) -> Result<Vec<Entry>, AllocError> {
+        let quotients = self.quotients(b);
         self.walk(b)?
             .iter()
-            .map(|e| self.entry(*e, b))
+            .map(|e| e.entry(quotients))
             .collect(heap)
     }
 
