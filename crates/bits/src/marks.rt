@@ -3,6 +3,8 @@
 ghost use Rattle.std.specs.Prelude.{◌≡◌, ℕ, ◌+◌, ◌%◌, ◌^◌, ◌≤◌, min, MatchBool, count_ones};
 ghost use Rattle.bits.specs.Marks.{entries_before, begins, ends, size_of, one_more, one_less, Marked};
 
+// The functions take a word, and no struct round one: the word stands in a table's memory, and each call would wrap it and take it out again.
+
 /// The number of bits in a mark word.
 const BITS: u64 = 64;
 
@@ -20,6 +22,7 @@ pub fn end(word: u64, slot: u64) -> u64
     ensures bound { result ≤ 64 }
 {
     let mut at = 0;
+    // A for that ends early: a try_fold carries the same place and the same two ends in its closure, and is no plainer.
     for _slot in 0..slot {
         at += (word >> at).trailing_ones() as u64 + 1;
         if at >= BITS {

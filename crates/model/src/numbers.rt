@@ -20,6 +20,7 @@ impl Refusal {
     pub fn number(&self) -> u64
         ensures value { result ≡ (says self.now).0 }
     {
+        // By name: the numbers are published, and no conversion that is derived would show them.
         match *self {
             Refusal::UnknownKey => 11,
             Refusal::UnknownValue => 12,

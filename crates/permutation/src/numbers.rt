@@ -8,6 +8,7 @@ impl SetUpRefusal {
     pub fn number(&self) -> u64
         ensures { result ≡ (set_up_says self.now).0 }
     {
+        // By name: the numbers are published, and no conversion that is derived would show them.
         match self {
             SetUpRefusal::Width => 8,
             SetUpRefusal::Multiplier => 8,

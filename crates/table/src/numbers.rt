@@ -9,6 +9,7 @@ impl TableRefusal {
     pub fn number(&self) -> u64
         ensures { result ≡ (table_says self.now).0 }
     {
+        // By name: the numbers are published, and no conversion that is derived would show them.
         match *self {
             TableRefusal::Unformed => 1,
             TableRefusal::OutOfRange => 2,
@@ -25,6 +26,7 @@ impl CheckRefusal {
     pub fn number(&self) -> u64
         ensures { result ≡ (check_says self.now).0 }
     {
+        // By name: the numbers are published, and no conversion that is derived would show them.
         match *self {
             CheckRefusal::DoesNotFit => 6,
             CheckRefusal::WrongBlock(_) => 7,

@@ -24,6 +24,8 @@ pub trait Table {
     /// How many entries a group may hold.
     ghost limit: { ℕ };
 
+    // The three widths stay three numbers: they come from three places and may be any, and a struct of them would be a Shape without its facts.
+
     /// Forms the table anew, with empty slots, whatever it was before.
     fn form(&mut self, k: u32, v: u32, b: u32) -> Result<(), TableRefusal>
         ensures sound { sound self.old → sound self.new }
@@ -39,6 +41,8 @@ pub trait Table {
         ensures after { means self.new ≡ cleared (means self.old) }
         ensures len { length (words self.new) ≡ length (words self.old) }
         ensures fits { fits self.new ≡ fits self.old };
+
+    // A slot and a quotient stay two numbers: a Place is what a Shape cuts, of numbers in range, and here any may come in; `size` and `entry` take a slot alone.
 
     /// Puts an entry at the end of a slot's list.
     fn add(&mut self, slot: u64, quotient: u64, value: u64) -> Result<(), TableRefusal>

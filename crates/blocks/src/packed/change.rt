@@ -16,6 +16,7 @@ pub(crate) fn open_gap(
     quotient: u64,
     value: u64,
 )
+    // The length is a premise here and below: a struct with a ghost field cannot hold a `&mut`.
     requires { length block.old ≡ width 1 shape.k shape.v shape.b }
     ensures after { block.new ≡ with_areas shape.k shape.v shape.b block.old
         (field_inserted (shape.k - shape.b) count (number (quotient_area 1 shape.k shape.b block.old)) place quotient)
