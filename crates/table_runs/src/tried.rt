@@ -1,14 +1,11 @@
 //! The tables as the runs see them.
-use expected::kind::Kind;
+use expected::shown::Shown;
 use packed::PackedTable;
 use plain::PlainTable;
 use table::check_refusal::CheckRefusal;
-use table::table::Table;
 
 /// A table that is tried.
-pub trait Tried: Table + Drop {
-    fn kind() -> Kind;
-
+pub trait Tried: Shown + Drop {
     /// An unformed table over words.
     fn over(words: Vec<u64>) -> Self;
 
@@ -17,15 +14,9 @@ pub trait Tried: Table + Drop {
 
     /// What a check of words answers.
     fn checked(words: &[u64], k: u32, v: u32, b: u32) -> Result<(), CheckRefusal>;
-
-    fn shown(&self) -> &[u64];
 }
 
 impl Tried for PlainTable {
-    fn kind() -> Kind {
-        Kind::Plain
-    }
-
     fn over(words: Vec<u64>) -> PlainTable {
         PlainTable::set_up(words)
     }
@@ -37,17 +28,9 @@ impl Tried for PlainTable {
     fn checked(words: &[u64], k: u32, v: u32, b: u32) -> Result<(), CheckRefusal> {
         plain::check::check(words, k, v, b)
     }
-
-    fn shown(&self) -> &[u64] {
-        self.words()
-    }
 }
 
 impl Tried for PackedTable {
-    fn kind() -> Kind {
-        Kind::Packed
-    }
-
     fn over(words: Vec<u64>) -> PackedTable {
         PackedTable::set_up(words)
     }
@@ -58,9 +41,5 @@ impl Tried for PackedTable {
 
     fn checked(words: &[u64], k: u32, v: u32, b: u32) -> Result<(), CheckRefusal> {
         packed::check::check(words, k, v, b)
-    }
-
-    fn shown(&self) -> &[u64] {
-        self.words()
     }
 }
