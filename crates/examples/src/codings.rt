@@ -37,37 +37,52 @@ fn nights(rt: &HostRuntime) -> io::Result<()> {
         back.count(NightCoding.item(number) == Some(Night { pitch, night }));
     }
     for number in [732, 1_023, 1_023_708, 1_024_000, 1_048_575, 1_048_576, MOST] {
-        back.count(NightCoding.item(number) == None);
+        back.count(NightCoding.item(number).is_none());
     }
     back.count(NightCoding.width() == 20);
     back.show(rt, "numbers to nights")
 }
 
-fn cards(rt: &HostRuntime) -> io::Result<()> {
+/// Items that are numbers themselves: those that there are, those that there are not, and the width.
+fn themselves<T: Copy + PartialEq, C: Coding<Item = T>, F: Fn(u64) -> T>(
+    coding: &C,
+    item: F,
+    there: &[u64],
+    none: &[u64],
+    width: u32,
+) -> Tally
+    requires { F.IsAlwaysCallable item }
+{
     let mut tally = Tally::new();
-    for number in [1, 2, 4_294_967_294, 4_294_967_295] {
-        tally.count(CardCoding.number(Card { number }) == Some(number));
-        tally.count(CardCoding.item(number) == Some(Card { number }));
+    for number in there {
+        tally.count(coding.number(item(*number)) == Some(*number));
+        tally.count(coding.item(*number) == Some(item(*number)));
     }
-    for number in [0, 4_294_967_296, MOST] {
-        tally.count(CardCoding.number(Card { number }) == None);
-        tally.count(CardCoding.item(number) == None);
+    for number in none {
+        tally.count(coding.number(item(*number)).is_none());
+        tally.count(coding.item(*number).is_none());
     }
-    tally.count(CardCoding.width() == 32);
+    tally.count(coding.width() == width);
+    tally
+}
+
+fn cards(rt: &HostRuntime) -> io::Result<()> {
+    let there = [1, 2, 4_294_967_294, 4_294_967_295];
+    let none = [0, 4_294_967_296, MOST];
+    let tally = themselves(&CardCoding, |number| Card { number }, &there, &none, 32);
     tally.show(rt, "cards and numbers")
 }
 
 fn bookings(rt: &HostRuntime) -> io::Result<()> {
-    let mut tally = Tally::new();
-    for number in [1, 2, 9_999_998, 9_999_999] {
-        tally.count(BookingCoding.number(Booking { number }) == Some(number));
-        tally.count(BookingCoding.item(number) == Some(Booking { number }));
-    }
-    for number in [0, 10_000_000, 16_777_215, 16_777_216, MOST] {
-        tally.count(BookingCoding.number(Booking { number }) == None);
-        tally.count(BookingCoding.item(number) == None);
-    }
-    tally.count(BookingCoding.width() == 24);
+    let there = [1, 2, 9_999_998, 9_999_999];
+    let none = [0, 10_000_000, 16_777_215, 16_777_216, MOST];
+    let tally = themselves(
+        &BookingCoding,
+        |number| Booking { number },
+        &there,
+        &none,
+        24,
+    );
     tally.show(rt, "bookings and numbers")
 }
 
@@ -87,22 +102,26 @@ fn loans(rt: &HostRuntime) -> io::Result<()> {
     }
     for (pitch, last) in [(0, 732), (999, 732), (1_000, 0), (MOST, 0), (0, MOST)] {
         tally.count(
-            LoanCoding.number(Loan {
-                pitch,
-                last,
-                paid: false,
-            }) == None,
+            LoanCoding
+                .number(Loan {
+                    pitch,
+                    last,
+                    paid: false,
+                })
+                .is_none(),
         );
         tally.count(
-            LoanCoding.number(Loan {
-                pitch,
-                last,
-                paid: true,
-            }) == None,
+            LoanCoding
+                .number(Loan {
+                    pitch,
+                    last,
+                    paid: true,
+                })
+                .is_none(),
         );
     }
     for number in [1_464, 1_465, 2_047, 2_047_416, 2_097_151, 2_097_152, MOST] {
-        tally.count(LoanCoding.item(number) == None);
+        tally.count(LoanCoding.item(number).is_none());
     }
     tally.count(LoanCoding.width() == 21);
     tally.show(rt, "loans and numbers")

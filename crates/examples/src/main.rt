@@ -4,6 +4,7 @@
 use std::io;
 
 mod bitwise;
+mod cases;
 mod codings;
 mod fields;
 mod marks;

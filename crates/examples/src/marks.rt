@@ -97,8 +97,8 @@ fn there_and_back(seed: u64, tally: &mut Tally) {
     }
     tally.count(bits::marks::is_marks(word, SLOTS, LIMIT));
     tally.count(bits::marks::load(word) == entries);
-    for slot in 0..SLOTS {
-        tally.count(bits::marks::size(word, slot) == sizes[slot as usize]);
+    for (slot, size) in (0..SLOTS).zip(sizes.iter()) {
+        tally.count(bits::marks::size(word, slot) == *size);
         ask(word, slot, tally);
     }
     for _i in 0..200 {

@@ -1,57 +1,17 @@
 //! Permutations against tables, bit by bit computations and running sums of this module's own.
+use crate::cases::Cases;
+use expected::numbers::{power, times};
 use permutation::{Affine, Chain, Identity, Permutation, XorShift};
 use std::io;
 
 mod set_ups;
 
-use tally::tally::Tally;
-
-/// That n goes to y, and y comes from n.
-fn there_and_back<P: Permutation>(
-    rt: &HostRuntime,
-    tally: &mut Tally,
-    p: &P,
-    n: u64,
-    y: u64,
-) -> io::Result<()> {
-    tally.equal(rt, "forth", p.forth(n), y)?;
-    tally.equal(rt, "back", p.back(y), n)
-}
-
-/// That each number stays.
-fn stays<P: Permutation>(
-    rt: &HostRuntime,
-    tally: &mut Tally,
-    p: &P,
-    numbers: &[u64],
-) -> io::Result<()> {
-    for n in numbers {
-        there_and_back(rt, tally, p, *n, *n)?;
-    }
-    Ok(())
-}
-
-/// 2^width by doubling.
-fn doubled(width: u32) -> u64 {
-    let mut size = 1u64;
-    for _ in 0..width {
-        size = size.saturating_mul(2);
-    }
-    size
-}
-
 /// Bit i is the XOR of the bits i and i + shift.
 fn xor_by_bits(width: u32, shift: u32, n: u64) -> u64 {
-    let mut y = 0u64;
-    let mut place = 1u64;
-    for i in 0..width.min(32) {
-        let high = n >> i.saturating_add(shift).min(63);
-        if (n >> i) % 2 != high % 2 {
-            y = y.saturating_add(place);
-        }
-        place = place.saturating_mul(2);
-    }
-    y
+    let bit = |i: u32| times(n, power(i)) % 2;
+    (0..width.min(32))
+        .filter(|i| bit(*i) != bit(i.saturating_add(shift)))
+        .fold(0u64, |y, i| y.saturating_add(power(i)))
 }
 
 /// The next term of c, c + a, c + 2a and so on by the size.
@@ -65,51 +25,40 @@ fn stepped(y: u64, a: u64, size: u64) -> u64 {
 }
 
 fn all_of_identity(rt: &HostRuntime) -> io::Result<()> {
-    let mut tally = Tally::new();
+    let mut cases = Cases::new(rt);
     for width in 1..9u32 {
         let Ok(p) = Identity::new(width) else {
-            tally.unmade(rt)?;
+            cases.unmade()?;
             continue;
         };
-        for n in 0..doubled(width).saturating_add(3) {
-            there_and_back(rt, &mut tally, &p, n, n)?;
+        for n in 0..power(width).saturating_add(3) {
+            cases.there_and_back(&p, n, n)?;
         }
     }
-    tally.show(rt, "identity, all numbers of widths 1 to 8")
+    cases.show("identity, all numbers of widths 1 to 8")
 }
 
-fn one_affine(rt: &HostRuntime, tally: &mut Tally, width: u32, a: u64, c: u64) -> io::Result<()> {
+fn one_affine(cases: &mut Cases<'_>, width: u32, a: u64, c: u64) -> io::Result<()> {
     let Ok(p) = Affine::new(width, a, c) else {
-        return tally.unmade(rt);
+        return cases.unmade();
     };
-    let size = doubled(width);
+    let size = power(width);
     let mut y = c;
     for n in 0..size {
-        there_and_back(rt, tally, &p, n, y)?;
+        cases.there_and_back(&p, n, y)?;
         y = stepped(y, a, size);
     }
-    stays(
-        rt,
-        tally,
-        &p,
-        &[
-            size,
-            size.saturating_add(1),
-            size.saturating_mul(2),
-            u64::MAX,
-        ],
-    )
+    cases.stays_past(&p, size)
 }
 
 fn all_of_affine(rt: &HostRuntime) -> io::Result<()> {
-    let mut tally = Tally::new();
+    let mut cases = Cases::new(rt);
     for width in 1..5u32 {
-        let size = doubled(width);
+        let size = power(width);
         for half in 0..size / 2 {
             for c in 0..size {
                 one_affine(
-                    rt,
-                    &mut tally,
+                    &mut cases,
                     width,
                     half.saturating_mul(2).saturating_add(1),
                     c,
@@ -117,57 +66,47 @@ fn all_of_affine(rt: &HostRuntime) -> io::Result<()> {
             }
         }
     }
-    tally.show(rt, "affine, all numbers of widths 1 to 4")
+    cases.show("affine, all numbers of widths 1 to 4")
 }
 
 fn all_of_xor_shift(rt: &HostRuntime) -> io::Result<()> {
-    let mut tally = Tally::new();
+    let mut cases = Cases::new(rt);
     for width in 2..8u32 {
-        let size = doubled(width);
+        let size = power(width);
         for shift in 1..width {
             let Ok(p) = XorShift::new(width, shift) else {
-                tally.unmade(rt)?;
+                cases.unmade()?;
                 continue;
             };
             for n in 0..size {
-                there_and_back(rt, &mut tally, &p, n, xor_by_bits(width, shift, n))?;
+                cases.there_and_back(&p, n, xor_by_bits(width, shift, n))?;
             }
-            stays(
-                rt,
-                &mut tally,
-                &p,
-                &[
-                    size,
-                    size.saturating_add(1),
-                    size.saturating_mul(2),
-                    u64::MAX,
-                ],
-            )?;
+            cases.stays_past(&p, size)?;
         }
     }
-    tally.show(rt, "xor-shift, all numbers of widths 2 to 7")
+    cases.show("xor-shift, all numbers of widths 2 to 7")
 }
 
 /// The widths of one bit, where there is no shift, and of 32 bits.
 fn edges(rt: &HostRuntime) -> io::Result<()> {
-    let mut tally = Tally::new();
-    one_affine(rt, &mut tally, 1, 1, 0)?;
-    one_affine(rt, &mut tally, 1, 1, 1)?;
-    wide_identity(rt, &mut tally)?;
-    wide_affine(rt, &mut tally)?;
-    wide_xor_shift(rt, &mut tally)?;
-    tally.show(rt, "widths 1 and 32 at their edges")
+    let mut cases = Cases::new(rt);
+    one_affine(&mut cases, 1, 1, 0)?;
+    one_affine(&mut cases, 1, 1, 1)?;
+    wide_identity(&mut cases)?;
+    wide_affine(&mut cases)?;
+    wide_xor_shift(&mut cases)?;
+    cases.show("widths 1 and 32 at their edges")
 }
 
-fn wide_identity(rt: &HostRuntime, tally: &mut Tally) -> io::Result<()> {
+fn wide_identity(cases: &mut Cases<'_>) -> io::Result<()> {
     for width in [1, 32u32] {
         let Ok(p) = Identity::new(width) else {
-            tally.unmade(rt)?;
+            cases.unmade()?;
             continue;
         };
-        tally.equal(rt, "width", u64::from(p.width()), u64::from(width))?;
-        stays(rt, tally, &p, &EDGES)?;
-        stays(rt, tally, &p, &WIDER)?;
+        cases.equal("width", u64::from(p.width()), u64::from(width))?;
+        cases.stays(&p, &EDGES)?;
+        cases.stays(&p, &WIDER)?;
     }
     Ok(())
 }
@@ -206,79 +145,78 @@ const GOES: [(u64, u64); 6] = [
     (3_735_928_559, 2_629_380_728),
 ];
 
-fn wide_affine(rt: &HostRuntime, tally: &mut Tally) -> io::Result<()> {
+fn wide_affine(cases: &mut Cases<'_>) -> io::Result<()> {
     let Ok(most) = Affine::new(32, 4_294_967_295, 4_294_967_295) else {
-        return tally.unmade(rt);
+        return cases.unmade();
     };
     let Ok(some) = Affine::new(32, MULTIPLIER, INCREMENT) else {
-        return tally.unmade(rt);
+        return cases.unmade();
     };
     for n in EDGES {
         // −n − 1 by 2^32 turns every bit
-        there_and_back(rt, tally, &most, n, n ^ 4_294_967_295)?;
+        cases.there_and_back(&most, n, n ^ 4_294_967_295)?;
     }
     for (n, y) in GOES {
-        there_and_back(rt, tally, &some, n, y)?;
+        cases.there_and_back(&some, n, y)?;
     }
-    tally.equal(rt, "inverse", most.inverse(), 4_294_967_295)?;
-    tally.equal(rt, "inverse", some.inverse(), INVERSE)?;
-    tally.equal(rt, "width", u64::from(some.width()), 32)?;
-    stays(rt, tally, &most, &WIDER)?;
-    stays(rt, tally, &some, &WIDER)
+    cases.equal("inverse", most.inverse(), 4_294_967_295)?;
+    cases.equal("inverse", some.inverse(), INVERSE)?;
+    cases.equal("width", u64::from(some.width()), 32)?;
+    cases.stays(&most, &WIDER)?;
+    cases.stays(&some, &WIDER)
 }
 
-fn wide_xor_shift(rt: &HostRuntime, tally: &mut Tally) -> io::Result<()> {
+fn wide_xor_shift(cases: &mut Cases<'_>) -> io::Result<()> {
     for shift in [1, 2, 15, 16, 17, 30, 31u32] {
         let Ok(p) = XorShift::new(32, shift) else {
-            tally.unmade(rt)?;
+            cases.unmade()?;
             continue;
         };
         for n in EDGES {
-            there_and_back(rt, tally, &p, n, xor_by_bits(32, shift, n))?;
+            cases.there_and_back(&p, n, xor_by_bits(32, shift, n))?;
         }
-        stays(rt, tally, &p, &WIDER)?;
+        cases.stays(&p, &WIDER)?;
     }
     Ok(())
 }
 
 /// The worked numbers, and a chain in a chain.
-fn chains(rt: &HostRuntime, tally: &mut Tally) -> io::Result<()> {
+fn chains(cases: &mut Cases<'_>) -> io::Result<()> {
     let Ok(first) = Affine::new(8, 5, 3) else {
-        return tally.unmade(rt);
+        return cases.unmade();
     };
     let Ok(second) = XorShift::new(8, 3) else {
-        return tally.unmade(rt);
+        return cases.unmade();
     };
     let Ok(third) = Identity::new(8) else {
-        return tally.unmade(rt);
+        return cases.unmade();
     };
-    tally.equal(rt, "inverse", first.inverse(), 205)?;
-    there_and_back(rt, tally, &first, 100, 247)?;
-    there_and_back(rt, tally, &first, 255, 254)?;
-    there_and_back(rt, tally, &second, 200, 209)?;
+    cases.equal("inverse", first.inverse(), 205)?;
+    cases.there_and_back(&first, 100, 247)?;
+    cases.there_and_back(&first, 255, 254)?;
+    cases.there_and_back(&second, 200, 209)?;
     let Ok(inner) = Chain::new(first, second) else {
-        return tally.unmade(rt);
+        return cases.unmade();
     };
-    there_and_back(rt, tally, &inner, 100, 233)?;
+    cases.there_and_back(&inner, 100, 233)?;
     let Ok(outer) = Chain::new(inner, third) else {
-        return tally.unmade(rt);
+        return cases.unmade();
     };
-    all_of_chain(rt, tally, &outer)
+    all_of_chain(cases, &outer)
 }
 
 /// That the numbers of 8 bits go by 5n + 3, then by a shift of 3, and the others stay.
 fn all_of_chain(
-    rt: &HostRuntime,
-    tally: &mut Tally,
+    cases: &mut Cases<'_>,
     p: &Chain<Chain<Affine, XorShift>, Identity>,
 ) -> io::Result<()> {
-    tally.equal(rt, "width", u64::from(p.width()), 8)?;
+    cases.equal("width", u64::from(p.width()), 8)?;
     let mut y = 3;
     for n in 0..256u64 {
-        there_and_back(rt, tally, p, n, xor_by_bits(8, 3, y))?;
+        cases.there_and_back(p, n, xor_by_bits(8, 3, y))?;
         y = stepped(y, 5, 256);
     }
-    stays(rt, tally, p, &[256, 257, 512, u64::MAX])
+    cases.stays(p, &[256, 257, 512, u64::MAX])
 }
 
 /// Every group of comparisons.
@@ -287,8 +225,8 @@ pub fn run(rt: &HostRuntime) -> io::Result<()> {
     all_of_affine(rt)?;
     all_of_xor_shift(rt)?;
     edges(rt)?;
-    let mut tally = Tally::new();
-    chains(rt, &mut tally)?;
-    tally.show(rt, "a chain in a chain, all numbers of width 8")?;
+    let mut cases = Cases::new(rt);
+    chains(&mut cases)?;
+    cases.show("a chain in a chain, all numbers of width 8")?;
     set_ups::run(rt)
 }

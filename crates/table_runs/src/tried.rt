@@ -1,13 +1,10 @@
 //! The tables as the runs see them.
-use expected::kind::Kind;
 use blocks::{PackedTable, PlainTable};
+use expected::shown::Shown;
 use table::check_refusal::CheckRefusal;
-use table::table::Table;
 
 /// A table that is tried.
-pub trait Tried: Table + Drop {
-    fn kind() -> Kind;
-
+pub trait Tried: Shown + Drop {
     /// An unformed table over words.
     fn over(words: Vec<u64>) -> Self;
 
@@ -16,15 +13,9 @@ pub trait Tried: Table + Drop {
 
     /// What a check of words answers.
     fn checked(words: &[u64], k: u32, v: u32, b: u32) -> Result<(), CheckRefusal>;
-
-    fn shown(&self) -> &[u64];
 }
 
 impl Tried for PlainTable {
-    fn kind() -> Kind {
-        Kind::Plain
-    }
-
     fn over(words: Vec<u64>) -> PlainTable {
         PlainTable::set_up(words)
     }
@@ -36,17 +27,9 @@ impl Tried for PlainTable {
     fn checked(words: &[u64], k: u32, v: u32, b: u32) -> Result<(), CheckRefusal> {
         PlainTable::check(words, k, v, b)
     }
-
-    fn shown(&self) -> &[u64] {
-        self.words()
-    }
 }
 
 impl Tried for PackedTable {
-    fn kind() -> Kind {
-        Kind::Packed
-    }
-
     fn over(words: Vec<u64>) -> PackedTable {
         PackedTable::set_up(words)
     }
@@ -57,9 +40,5 @@ impl Tried for PackedTable {
 
     fn checked(words: &[u64], k: u32, v: u32, b: u32) -> Result<(), CheckRefusal> {
         PackedTable::check(words, k, v, b)
-    }
-
-    fn shown(&self) -> &[u64] {
-        self.words()
     }
 }

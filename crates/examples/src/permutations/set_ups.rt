@@ -1,22 +1,18 @@
 //! Set-ups of permutations, and what is wrong with them.
+use crate::cases::Cases;
 use permutation::{Affine, Chain, Identity, SetUpRefusal, XorShift};
 use std::io;
-use tally::tally::Tally;
 
 /// That a set-up is refused as wanted, under the number 8, or made.
 fn set_up<P: Drop>(
-    rt: &HostRuntime,
-    tally: &mut Tally,
+    cases: &mut Cases<'_>,
     made: Result<P, SetUpRefusal>,
     want: Option<SetUpRefusal>,
 ) -> io::Result<()> {
     let got = made.err();
-    tally.count(got == want);
-    if got != want {
-        println!(rt; "  set-up: {got:?}, not {want:?}")?;
-    }
+    cases.refused(got, want)?;
     if let Some(refusal) = got {
-        tally.equal(rt, "number", refusal.number(), 8)?;
+        cases.equal("number", refusal.number(), 8)?;
     }
     Ok(())
 }
@@ -95,40 +91,32 @@ const PAIRS: [(u32, u32, Option<SetUpRefusal>); 6] = [
 ];
 
 fn chain(
-    rt: &HostRuntime,
-    tally: &mut Tally,
+    cases: &mut Cases<'_>,
     one: u32,
     other: u32,
     want: Option<SetUpRefusal>,
 ) -> io::Result<()> {
-    let Ok(first) = Identity::new(one) else {
-        return tally.unmade(rt);
+    let (Ok(first), Ok(second)) = (Identity::new(one), Identity::new(other)) else {
+        return cases.unmade();
     };
-    let Ok(second) = Identity::new(other) else {
-        return tally.unmade(rt);
-    };
-    set_up(rt, tally, Chain::new(first, second), want)
+    set_up(cases, Chain::new(first, second), want)
 }
 
 /// Every constructor just inside and outside each bound.
 pub fn run(rt: &HostRuntime) -> io::Result<()> {
-    let mut tally = Tally::new();
+    let mut cases = Cases::new(rt);
     for (width, want) in WIDTHS {
-        set_up(rt, &mut tally, Identity::new(width), want)?;
+        set_up(&mut cases, Identity::new(width), want)?;
     }
     for (width, multiplier, increment, want) in AFFINES {
-        set_up(
-            rt,
-            &mut tally,
-            Affine::new(width, multiplier, increment),
-            want,
-        )?;
+        let made = Affine::new(width, multiplier, increment);
+        set_up(&mut cases, made, want)?;
     }
     for (width, shift, want) in SHIFTS {
-        set_up(rt, &mut tally, XorShift::new(width, shift), want)?;
+        set_up(&mut cases, XorShift::new(width, shift), want)?;
     }
     for (one, other, want) in PAIRS {
-        chain(rt, &mut tally, one, other, want)?;
+        chain(&mut cases, one, other, want)?;
     }
-    tally.show(rt, "set-ups inside and outside each bound")
+    cases.show("set-ups inside and outside each bound")
 }
