@@ -59,19 +59,3 @@ module _ {forth back : ℕ → ℕ} {k : ℕ} (mix : Mixes forth back k) (b : �
       ap told (weighed_here mix b narrow l below C v (m + i) w n inside small)
       ∙ ap (λ o. told (weigh_held C n o)) (sym (value_run l m w i (m + i) (omega arith)))
       ∙ told_held slot S C (l ++ run_of m w i) (m + i) n (value_in (l ++ run_of m w i) (m + i)) loads
-
--- the count of a run's earlier keys, one more of them
-pub earlier_more : (p : ℕ × ℕ → Bool) (m w j n n' : ℕ) (t : Bool) → n ≡ count_if p (run_of m w j) → p (m + j, w) ≡ t → n' ≡ n + cond t 1 0 → n' ≡ count_if p (run_of m w (j + 1))
-earlier_more p m w j n n' t before is more =
-    let e : j + 1 ≡ suc j = omega arith in
-    let one : count_if p (run_of m w (j + 1)) ≡ count_if p (run_of m w j) + cond t 1 0 =
-    ap (λ y. count_if p (run_of m w y)) e ∙ ap (count_if p) (run_snoc m w j) ∙ count_append p (run_of m w j) ((m + j, w) ∷ []) ∙ ap (λ u. count_if p (run_of m w j) + cond u 1 0) is in
-    more ∙ ap (λ y. y + cond t 1 0) before ∙ sym one
-
--- whether a slot is in the group of another, by the quotients of both
-module _ (size slot s s' : ℕ) (is : s ≡ s') where
-  pub group_yes : s / size ≡ slot / size → eqb (s' / size) (slot / size) ≡ true
-  group_yes e = eq-eqb (s' / size) (slot / size) (ap (λ y. y / size) (sym is) ∙ e)
-
-  pub group_no : (s / size ≡ slot / size → ⊥) → eqb (s' / size) (slot / size) ≡ false
-  group_no off = ne_eqb (s' / size) (slot / size) (λ e. off (ap (λ y. y / size) is ∙ e))

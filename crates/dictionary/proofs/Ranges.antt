@@ -1,5 +1,5 @@
 -- How many keys stand in some slots in a row, and whether every group holds.
-use Rattle.std.proofs.Common.{◌≡◌, ℕ, zero, suc, ◌+◌, ◌*◌, ◌/◌, ◌%◌, ◌^◌, ◌<◌, ◌≤◌, Bool, true, false, cond, ◌&&◌, eqb, ltb, leb, ◌⊎◌, [], ◌∷◌, length, get_or, take, sym, refl, ap, ◌∙◌, subst, inl, inr, ⊎_elim, suc-mul, arith}
+use Rattle.std.proofs.Common.{◌≡◌, ℕ, zero, suc, ◌+◌, ◌-◌, ◌*◌, ◌/◌, ◌%◌, ◌^◌, ◌<◌, ◌≤◌, min, Bool, true, false, cond, ◌&&◌, eqb, ltb, leb, ◌⊎◌, [], ◌∷◌, length, get_or, take, sym, refl, ap, ◌∙◌, subst, inl, inr, ⊎_elim, suc-mul, arith}
 use Rattle.std.proofs.lemmas.Nat.{div-add-mod', div_below, le-div, mod_below, pow-add, shl_whole}
 use Rattle.std.proofs.lemmas.List.{take_more}
 use Rattle.std.proofs.lemmas.Bool.{and_from, and_parts, cases_Bool, cases_eq, cases_lt, le-leb, leb-false, leb-true, lt-ltb, ltb-true, ne_eqb}
@@ -12,14 +12,8 @@ use Rattle.table.proofs.Groups.{inside_groups}
 use Rattle.model.specs.Entries.{Entries, count_if, entries_hold, group_load, groups_hold}
 use Rattle.model.proofs.Counting.{count_append, two_parts}
 use Rattle.model.proofs.Loads.{overfull}
+use Rattle.model.proofs.SlotLoads.{in_group}
 use Rattle.dictionary.specs.Stored.{range_load}
-
--- one more entry counted
-pub counted_more : (p : ℕ × ℕ → Bool) (xs : Entries) (i n n' : ℕ) (t : Bool) → i < length xs → n ≡ count_if p (take i xs) → p (get_or xs i (0, 0)) ≡ t → n' ≡ n + cond t 1 0 → n' ≡ count_if p (take (i + 1) xs)
-counted_more p xs i n n' t h before is more =
-    let one : count_if p (take (i + 1) xs) ≡ count_if p (take i xs) + cond t 1 0 =
-    ap (count_if p) (take_more xs i (0, 0) h) ∙ count_append p (take i xs) (get_or xs i (0, 0) ∷ []) ∙ ap (λ u. count_if p (take i xs) + cond u 1 0) is in
-    more ∙ ap (λ y. y + cond t 1 0) before ∙ sym one
 
 -- tests that agree count alike
 count_same : (p q : ℕ × ℕ → Bool) → ((e : ℕ × ℕ) → p e ≡ q e) → (l : Entries) → count_if p l ≡ count_if q l
@@ -66,28 +60,13 @@ module _ (slot : ℕ → ℕ) (l : Entries) where
   -- the slots of a group
   pub range_group : (S g : ℕ) → 0 < S → range_load slot (g * S) S l ≡ group_load slot S l g
   unfolding range_load
-  range_group S g pos = count_same (λ e. leb (g * S) (slot e.0) && ltb (slot e.0) (g * S + S)) (λ e. eqb (slot e.0 / S) g) (λ e. in_group (slot e.0)) l
+  range_group S g pos = count_same (λ e. leb (g * S) (slot e.0) && ltb (slot e.0) (g * S + S)) (λ e. eqb (slot e.0 / S) g) (λ e. one (slot e.0)) l
     where
-      in_group : (x : ℕ) → (leb (g * S) x && ltb x (g * S + S)) ≡ eqb (x / S) g
-      in_group x =
-          same_from_decides (leb (g * S) x && ltb x (g * S + S)) (eqb (x / S) g) (
-            (λ t.
-                let both = and_parts (leb (g * S) x) (ltb x (g * S + S)) t in
-                let low : g * S ≤ x = leb-true (g * S) x both.0 in
-                let high : x < g * S + S = ltb-true x (g * S + S) both.1 in
-                let more : suc g * S ≡ g * S + S = suc-mul g S in
-                let below : x < suc g * S = omega arith in
-                let one : g ≤ x / S = le-div g x S pos low in
-                let two : x / S < suc g = div_below x S (suc g) pos below in
-                omega arith),
-            (λ e.
-                let whole : g * S + x % S ≡ x = subst (λ q. q * S + x % S ≡ x) e (div-add-mod' x S) in
-                let rest : x % S < S = mod_below x S pos in
-                let low : g * S ≤ x = omega arith in
-                let high : x < g * S + S = omega arith in
-                and_from (leb (g * S) x) (ltb x (g * S + S)) (le-leb (g * S) x low) (lt-ltb x (g * S + S) high)),
-          )
-          (Decides-eqb (x / S) g)
+      one : (x : ℕ) → (leb (g * S) x && ltb x (g * S + S)) ≡ eqb (x / S) g
+      one x =
+          let n = g * S + S + suc x in
+          let whole : min S (n - g * S) ≡ S = omega arith in
+          ap (λ y. leb (g * S) x && ltb x (g * S + y)) (sym whole) ∙ in_group slot slot S g n x pos (omega arith)
 
 module _ (slot : ℕ → ℕ) (S C : ℕ) (l : Entries) where
   seen : (es : Entries) (g : ℕ) → entries_hold slot S C l es ≡ true → (count_if (λ e. eqb (slot e.0 / S) g) es ≡ 0) ⊎ (group_load slot S l g ≤ C)

@@ -100,10 +100,6 @@ module _ (slot : ℕ → ℕ) (l : Entries) where
         let past : length l ≤ i = omega arith in
         ap (entry_if (walk slot (2 ^ b) l) i) (le-ltb i (length l) past)
 
--- two answers that are one
-pub same_ok : {A E : Type 0} {x y : A} → ◌≡◌ {A = Result A E} (Ok x) (Ok y) → x ≡ y
-same_ok e = cc
-
 pub same_some : {A : Type 0} {x y : A} → ◌≡◌ {A = Option A} (Some x) (Some y) → x ≡ y
 same_some e = cc
 

@@ -15,9 +15,3 @@ module _ {K V : Type 0} (f : Fixed K V) where
   pub run_replies : (s : Model) (cs : List (Call K V)) (c : Call K V) → (run f s (cs ++ c ∷ [])).1 ≡ (run f s cs).1 ++ (step f (run f s cs).0 c).1 ∷ []
   run_replies s [] c = refl
   run_replies s (d ∷ cs) c = ap (λ h. (step f s d).1 ∷ h) (run_replies (step f s d).0 cs c)
-
-  -- the history
-  pub run_paired : (s : Model) (cs : List (Call K V)) (c : Call K V)
-      → paired (cs ++ c ∷ []) (run f s (cs ++ c ∷ [])).1 ≡ paired cs (run f s cs).1 ++ (c, (step f (run f s cs).0 c).1) ∷ []
-  run_paired s [] c = refl
-  run_paired s (d ∷ cs) c = ap (λ h. (d, (step f s d).1) ∷ h) (run_paired (step f s d).0 cs c)

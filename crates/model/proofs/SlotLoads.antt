@@ -39,7 +39,7 @@ module _ (slot quotient : ℕ → ℕ) where
       tests s = grind (arith, nat_tests)
 
   -- x falls into the group g of S slots, of n in all
-  in_group : (S g n x : ℕ) → 0 < S → x < n → (leb (g * S) x && ltb x (g * S + min S (n - g * S))) ≡ eqb (x / S) g
+  pub in_group : (S g n x : ℕ) → 0 < S → x < n → (leb (g * S) x && ltb x (g * S + min S (n - g * S))) ≡ eqb (x / S) g
   in_group S g n x pos inside =
       same_from_decides (leb (g * S) x && ltb x (g * S + min S (n - g * S))) (eqb (x / S) g) (
         (λ t.

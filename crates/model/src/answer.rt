@@ -1,3 +1,6 @@
+ghost use Rattle.std.specs.Prelude.{◌≡◌};
+ghost use Rattle.model.specs.declared.answer.Answer.TheVariants.{Refused, RefusedAt};
+
 use crate::refusal::Refusal;
 use crate::run_refusal::RunRefusal;
 
@@ -14,4 +17,22 @@ pub enum Answer<V> {
     Refused(Refusal),
     /// Why a take or a cancel is refused, and at which of its keys.
     RefusedAt(RunRefusal),
+}
+
+/// A refusal is an answer.
+impl<V> From<Refusal> for Answer<V> {
+    ghost from_gives = { λ e r. r ≡ Refused e };
+
+    fn from(e: Refusal) -> Answer<V> {
+        Answer::Refused(e)
+    }
+}
+
+/// And so is that of a run.
+impl<V> From<RunRefusal> for Answer<V> {
+    ghost from_gives = { λ e r. r ≡ RefusedAt e };
+
+    fn from(e: RunRefusal) -> Answer<V> {
+        Answer::RefusedAt(e)
+    }
 }

@@ -16,22 +16,13 @@ use Rattle.model.specs.Laws.{Lawful, Listing, SameCodings, entries_with}
 use Rattle.model.proofs.Cuts.{cut_lists}
 use Rattle.model.proofs.Stored.{counts}
 use Rattle.model.proofs.Alikeness.{alike}
+use Rattle.model.proofs.Appending.{run_model, run_replies}
 use Rattle.register.specs.declared.state.Register.{Register}
 use Rattle.register.specs.Fixed.{fixed}
 use Rattle.register.specs.Stands.{Stands, Same}
 use Rattle.register.specs.Promise.{Agree, reply, replies, machine, Steps, Promise, Continues}
 
 module _ {K V : Type 0} (f : Fixed K V) where
-  -- the machine after one more call
-  pub run_model : (m : Model) (cs : List (Call K V)) (c : Call K V) → (run f m (cs ++ (c ∷ []))).0 ≡ (step f (run f m cs).0 c).0
-  run_model m [] c = refl
-  run_model m (d ∷ cs) c = run_model (step f m d).0 cs c
-
-  -- the replies with one more
-  pub run_replies : (m : Model) (cs : List (Call K V)) (c : Call K V) → (run f m (cs ++ (c ∷ []))).1 ≡ (run f m cs).1 ++ ((step f (run f m cs).0 c).1 ∷ [])
-  run_replies m [] c = refl
-  run_replies m (d ∷ cs) c = ap (λ l. (step f m d).1 ∷ l) (run_replies (step f m d).0 cs c)
-
   -- a machine agrees with every other that has equal codings
   pub agree : (g : Fixed K V) → SameCodings f g → (calls : List (Call K V)) → Agree calls (run f closed calls).1 (run g closed calls).1
   agree g same [] p q = absurd p

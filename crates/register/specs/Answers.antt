@@ -3,6 +3,7 @@
 --   run_answer      of take and cancel
 --   value_answer    of find
 --   entry_answer    of at
+--   either          the answer, whether it is told as one or as an error
 use Rattle.std.specs.Prelude.{ℕ, Ok, Err, Result}
 use Rattle.model.specs.declared.answer.Answer.{Answer}
 use Rattle.model.specs.declared.answer.Answer.TheVariants.{Number, Value, Entry, Refused, RefusedAt}
@@ -28,3 +29,8 @@ value_answer (Err e) = Refused e
 abbrev pub entry_answer : {U : Type 0} → Result (ℕ × ℕ) Refusal → Answer U
 entry_answer (Ok e) = Entry e.0 e.1
 entry_answer (Err e) = Refused e
+
+-- whether it is told as one or as an error
+abbrev pub either : {A : Type 0} → Result A A → A
+either (Ok a) = a
+either (Err a) = a
