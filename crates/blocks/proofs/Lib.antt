@@ -1,6 +1,9 @@
 pub mod Readable
 pub mod Weighing
 pub mod Called
+pub mod Tables
+pub mod PlainTables
+pub mod PackedTables
 pub mod PlainPlaces
 pub mod PlainAdding
 pub mod PlainRemoving

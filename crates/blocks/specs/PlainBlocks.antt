@@ -1,11 +1,13 @@
 -- A slot's entries and its block, one to one.
-use Rattle.std.specs.Prelude.{◌≡◌, ℕ, suc, ◌+◌, ◌-◌, ◌^◌, ◌<◌, ◌≤◌, List, [], ◌∷◌, ◌++◌, map, length, get_or, take, drop, set, replicate, slice_index, slice_index_or, slice_set, refl}
+use Rattle.std.specs.Prelude.{◌≡◌, ℕ, suc, ◌+◌, ◌-◌, ◌^◌, ◌<◌, ◌≤◌, List, [], ◌∷◌, ◌++◌, map, length, get_or, take, drop, set, replicate, Ok, Err, slice_index, slice_index_or, slice_set, refl}
 use Rattle.std.proofs.Common.{sym, ap₂, subst, ◌∙◌, add-one, pow_mono}
 use Rattle.std.proofs.Math.Path.{ap}
 use native.Mathlib.Omega.{arith}
 use Rattle.std.proofs.lemmas.Nat.{mod-mul-add, div-mul-add, div-add-mod'}
 use Rattle.std.proofs.lemmas.List.{length-append, length-map, length-replicate, length_push, length-take-le, take_at, set_at, map-append, append_assoc, take-append-drop, length-drop, get_or-take, get_or-drop, get_or-map}
-use Rattle.table.specs.Meaning.{Good}
+use Rattle.std.proofs.lemmas.Bool.{lt-ltb, le-ltb}
+use Rattle.table.specs.declared.refusal.TableRefusal.TheVariants.{OutOfRange}
+use Rattle.table.specs.Meaning.{Good, picked, picked_at}
 use Rattle.blocks.specs.PlainLayout.{word_of, entry_of, block_of, entries_of, Stored}
 
 -- an entry that fits is what its word reads as
@@ -106,6 +108,10 @@ stored_words block st =
     length-take-le (slice_index block 0) (drop 1 block) le
 
 module _ (block : List ℕ) (st : Stored block) (i : ℕ) where
+  -- a place past the entries
+  pub pick_past : get_or block 0 0 ≤ i → Err OutOfRange ≡ picked (entries_of block) i
+  pick_past h = ap (picked_at (entries_of block) i) (sym (le-ltb i (length (entries_of block)) (omega (arith, stored_count block st))))
+
   -- the entry at a place stands in the word after it
   pub entry_at : i < slice_index block 0 → slice_index_or (entries_of block) i (0, 0) ≡ entry_of (slice_index block (i + 1))
   unfolding entries_of
@@ -115,3 +121,8 @@ module _ (block : List ℕ) (st : Stored block) (i : ℕ) where
       let one : 1 + i ≡ i + 1 = omega arith in
       let w : get_or (take c (drop 1 block)) i 0 ≡ get_or block (i + 1) 0 = get_or-take c (drop 1 block) i 0 h ∙ get_or-drop 1 block i 0 ∙ ap (λ t. slice_index block t) one in
       get_or-map entry_of (take c (drop 1 block)) i 0 (0, 0) il ∙ ap entry_of w
+
+  -- a place among the entries
+  pub pick_at : i < slice_index block 0 → Ok (entry_of (slice_index block (i + 1))) ≡ picked (entries_of block) i
+  pick_at h =
+      ap Ok (sym (entry_at h)) ∙ ap (picked_at (entries_of block) i) (sym (lt-ltb i (length (entries_of block)) (omega (arith, stored_count block st))))

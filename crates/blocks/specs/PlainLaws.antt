@@ -1,9 +1,11 @@
 -- The plain layout keeps the laws of a layout.
-use Rattle.std.specs.Prelude.{◌≡◌, ℕ, ◌+◌, ◌-◌, ◌*◌, ◌^◌, ◌<◌, ◌≤◌, Bool, true, false, ◌&&◌, leb, List, [], ◌∷◌, length, nat_le, slice_index_or, refl}
+use Rattle.std.specs.Prelude.{◌≡◌, ℕ, ◌+◌, ◌-◌, ◌*◌, ◌^◌, ◌<◌, ◌≤◌, Bool, true, false, ◌&&◌, leb, List, [], ◌∷◌, length, Some, nat_le, slice_index_or, refl}
 use Rattle.std.proofs.Common.{sym, ap, ap₂, subst, ◌∙◌, mul-one, pow_mono, arith}
 use Rattle.std.proofs.Math.Nat.{mod-one}
 use Rattle.std.proofs.lemmas.Bool.{and_parts, leb-true, ltb-true, le-leb, lt-leb}
-use Rattle.table.specs.Widths.{bounded}
+use Rattle.table.specs.declared.shape.Shape.{Shape}
+use Rattle.table.specs.Widths.{bounded, shape_where, widths}
+use Rattle.table.proofs.Setting.{shape_fits}
 use Rattle.table.specs.Meaning.{total, Good, Fit}
 use Rattle.table.specs.Layout.{GoodGroup}
 use Rattle.table.specs.Lawful.{Lawful}
@@ -82,6 +84,10 @@ pub fit_law : (n k v b : ℕ) → fits n k v b ≡ true → Fit 1 k v b
 fit_law n k v b h =
     let f = fitting n k v b h in
     record { some = omega arith; narrow = f.narrow; thin = f.thin; below = f.below; whole = mod-one (2 ^ b) }
+
+-- a shape made of widths that fit, fits
+pub fit_here : (n k v b : ℕ) (shape : Shape) → widths (Some shape) ≡ shape_where (fits n k v b) k v b → fits n shape.k shape.v shape.b ≡ true
+fit_here n k v b shape e = shape_fits (fits n) k v b shape e
 
 shut : (t u : Bool) → ((t && false) && u) ≡ false
 shut true u = refl

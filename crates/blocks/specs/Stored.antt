@@ -1,5 +1,5 @@
 -- A block that some group gives: it is the block of what it reads as, and stays one under an add and a removal.
-use Rattle.std.specs.Prelude.{◌≡◌, ℕ, ◌+◌, ◌-◌, ◌%◌, ◌^◌, ◌<◌, List, [], ◌∷◌, ◌++◌, map, length, get_or, take, set, Ok, sum, Result, count_ones, slice_index, slice_index_or, slice_set, refl}
+use Rattle.std.specs.Prelude.{◌≡◌, ℕ, ◌+◌, ◌-◌, ◌%◌, ◌^◌, ◌<◌, List, [], ◌∷◌, ◌++◌, map, length, get_or, take, set, None, Ok, Err, sum, Result, count_ones, slice_index, slice_index_or, slice_set, refl}
 use Rattle.std.proofs.Common.{sym, ap, ap₂, subst, ◌∙◌, mod-eq_of_lt, add-zero, arith}
 use Rattle.std.specs.List.{remove}
 use Rattle.std.proofs.lemmas.List.{length-map, length_push, map-set, get_or-map}
@@ -10,6 +10,7 @@ use Rattle.bits.specs.Marks.{marks, entries_before, size_of, one_more, one_less}
 use Rattle.bits.proofs.Lists.{insert_packed, remove_packed}
 use Rattle.bits.proofs.Unary.{more_marks, less_marks}
 use Rattle.table.specs.declared.refusal.TableRefusal.{TableRefusal}
+use Rattle.table.specs.declared.refusal.TableRefusal.TheVariants.{Absent}
 use Rattle.table.specs.Meaning.{total, value_in, without, weigh_held}
 use Rattle.table.specs.Places.{First}
 use Rattle.table.specs.Layout.{GoodGroup, group_added, group_reply, group_removed, group_without}
@@ -98,6 +99,12 @@ module _ (k v b : ℕ) (block : List ℕ) (gv : Given packed_table k v b block) 
           let R = slots_of 1 k v b block in
           ap (group_reply R j q w) (weighs ∙ ap (λ t. weigh_held 48 t (value_in (slice_index_or R j []) q)) (add-zero (total R)))
 
+      -- something stands against it
+      pub refused_case : (e : TableRefusal) → r ≡ Err e → Appended block (Err e)
+      refused_case e is =
+          let p = ap (group_reply (slots_of 1 k v b block) j q w) (sym is) ∙ whole in
+          record { after = exact_given ∙ ap (λ t. block_of 1 k v b t.0) p; value = ap (λ t. t.1) p }
+
       -- nothing does, and it is put in
       module _ (u : Unit {0}) (is : r ≡ Ok u) (count before size : ℕ) (cs : count ≡ count_ones (slice_index block 0)) (bs : before ≡ entries_before j (slice_index block 0)) (ns : size ≡ size_of j (slice_index block 0)) where
         taken : group_reply (slots_of 1 k v b block) j q w (Ok u) ≡ group_added 48 (slots_of 1 k v b block) j q w
@@ -183,3 +190,25 @@ module _ (k v b : ℕ) (block : List ℕ) (gv : Given packed_table k v b block) 
             rebuilt (without_place R j i) good_less last _ _ m e (marks_less m me)
             (area_less (k - b) (λ x. x.0) (number (quotient_area 1 k b block)) quotients_given (quotients_below k v b R good_given))
             (area_less v (λ x. x.1) (number (value_area 1 k b block)) values_given (values_below k v b R good_given))
+
+    -- what a removal leaves and answers
+    module _ (q : ℕ) where
+      pub record Removed (last : List ℕ) (a : Result ℕ TableRefusal) : Type 0 where
+        pub after : last ≡ block_of 1 k v b (group_removed (slots_of 1 k v b block) j q).0
+        pub value : a ≡ (group_removed (slots_of 1 k v b block) j q).1
+
+      -- the slot does not hold the quotient
+      pub absent_case : value_in (slice_index_or (slots_of 1 k v b block) j []) q ≡ None → Removed block (Err Absent)
+      absent_case e =
+          let R = slots_of 1 k v b block in
+          let p : (R, Err Absent) ≡ group_removed R j q = ap (group_without R j q) (sym e) in
+          record { after = exact_given ∙ ap (λ t. block_of 1 k v b t.0) p; value = ap (λ t. t.1) p }
+
+      -- it holds it first at place i
+      pub removed_case : (i : ℕ) → First (slice_index_or (slots_of 1 k v b block) j []) q i → (last : List ℕ) → last ≡ block_of 1 k v b (without_place (slots_of 1 k v b block) j i)
+          → (x : ℕ) → x ≡ (get_or (slice_index_or (slots_of 1 k v b block) j []) i (0, 0)).1 → Removed last (Ok x)
+      removed_case i f last e x xe =
+          let R = slots_of 1 k v b block in
+          let es = get_or R j [] in
+          let p : (slice_set R j (without es q), Ok (get_or es i (0, 0)).1) ≡ group_removed R j q = ap (group_without R j q) (sym (first_value es q i f)) in
+          record { after = e ∙ ap (λ t. block_of 1 k v b (slice_set R j t)) (sym (first_without es q i f)) ∙ ap (λ t. block_of 1 k v b t.0) p; value = ap Ok xe ∙ ap (λ t. t.1) p }

@@ -1,5 +1,5 @@
 -- What a block with marks reads as: its slots, their sizes, and the fields of each entry.
-use Rattle.std.specs.Prelude.{◌≡◌, ℕ, ◌+◌, ◌-◌, ◌^◌, ◌<◌, ◌≤◌, List, [], ◌∷◌, map, length, get_or, take, sum, count_ones, slice_index, slice_index_or}
+use Rattle.std.specs.Prelude.{◌≡◌, ℕ, zero, suc, ◌+◌, ◌-◌, ◌^◌, ◌<◌, ◌≤◌, List, [], ◌∷◌, map, length, get_or, take, sum, count_ones, slice_index, slice_index_or, refl}
 use Rattle.std.proofs.Math.Path.{sym, ap, ap₂}
 use Rattle.std.proofs.Common.{subst, ◌∙◌, mod-eq_of_lt, lt_of_lt_of_le, pow_mono}
 use native.Mathlib.Omega.{arith}
@@ -107,6 +107,14 @@ module _ (k v b : ℕ) (block : List ℕ) (mb : MarkedBlock k v b block) where
     -- the marks before it are the sizes of the slots before it
     pub before_here : entries_before j (slice_index block 0) ≡ sum (take j (map length (slots_of 1 k v b block)))
     before_here = before_is ∙ ap (λ t. sum (take j t)) (sym slot_sizes)
+
+    -- a slot has at most as many entries as its group
+    pub size_few : length (slice_index_or (slots_of 1 k v b block) j []) ≤ 48
+    size_few = sub_few (slice_index ss j) refl
+      where
+        sub_few : (n : ℕ) → slice_index ss j ≡ n → length (slice_index_or (slots_of 1 k v b block) j []) ≤ 48
+        sub_few zero e = omega (arith, size_is)
+        sub_few (suc n) e = let p = place_below ss j n (omega (arith, sixteen)) (omega arith) in omega (arith, size_is, few)
 
     module _ (i : ℕ) (l : i < length (slice_index_or (slots_of 1 k v b block) j [])) where
       place_in : entries_before j (slice_index block 0) + i < sum ss

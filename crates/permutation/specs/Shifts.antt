@@ -90,10 +90,18 @@ xor_below_more : (j : ℕ) (f : ℕ → ℕ) → xor_below (j + 1) f ≡ bit_xor
 unfolding xor_below
 xor_below_more j f = ap (λ (i : ℕ). xor_below i f) (add-one j)
 
--- a turn of the way back takes one term in
-pub turn_in : (k s y j shift found : ℕ) → shift ≡ j * s → shift < k → found ≡ xor_below j (term k s y) → bit_xor found (y / 2 ^ shift) ≡ xor_below (j + 1) (term k s y)
-turn_in k s y j shift found at l e =
-    ap₂ bit_xor e (ap (λ (n : ℕ). y / 2 ^ n) at ∙ sym (term_in k s y j (omega (arith, l, at)))) ∙ sym (xor_below_more j (term k s y))
+-- a turn of the way back that takes a term in
+pub turn_in : (k s y j found next : ℕ) → j * s < k → found ≡ xor_below j (term k s y) → next ≡ bit_xor found (y / 2 ^ (j * s)) → next ≡ xor_below (j + 1) (term k s y)
+turn_in k s y j found next l e n = n ∙ ap₂ bit_xor e (sym (term_in k s y j l)) ∙ sym (xor_below_more j (term k s y))
+
+-- a turn that takes none in
+pub turn_out : (k s y j found next : ℕ) → k ≤ j * s → found ≡ xor_below j (term k s y) → next ≡ found → next ≡ xor_below (j + 1) (term k s y)
+turn_out k s y j found next l e n =
+    n ∙ e ∙ sym (xor_below_more j (term k s y) ∙ ap (bit_xor (xor_below j (term k s y))) (term_out k s y j l) ∙ xor_zero_r (xor_below j (term k s y)))
+
+-- a turn that takes a term in, its shift a number of its own
+pub turn_by : (k s y j shift found : ℕ) → shift ≡ j * s → shift < k → found ≡ xor_below j (term k s y) → bit_xor found (y / 2 ^ shift) ≡ xor_below (j + 1) (term k s y)
+turn_by k s y j shift found at l e = turn_in k s y j found (bit_xor found (y / 2 ^ shift)) (omega (arith, l, at)) e (ap (λ (n : ℕ). bit_xor found (y / 2 ^ n)) at)
 
 -- after a shift of k or more no further term counts
 rest_out : (k s y j : ℕ) → k ≤ j * s → (i : ℕ) → xor_below (i + j) (term k s y) ≡ xor_below j (term k s y)
