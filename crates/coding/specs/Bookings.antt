@@ -5,7 +5,7 @@
 -- booking_number                the number of a booking that can be
 -- booking_item                  the booking that has a number
 use Rattle.std.specs.Prelude.{ℕ, Bool, Option}
-use Rattle.coding.specs.Ranged.{in_range, ranged_number, ranged_item}
+use Rattle.coding.specs.Ranged.{in_range, own_number, own_item}
 use Rattle.coding.specs.declared.items.Booking.{Booking}
 
 -- bookings are 1 to 9,999,999
@@ -20,8 +20,8 @@ booking_exists = in_range first_booking last_booking
 
 -- a booking's number is its own
 abbrev pub booking_number : Booking → Option ℕ
-booking_number = ranged_number first_booking last_booking (λ x. x.number)
+booking_number = own_number booking_exists (λ x. x.number)
 
 -- the booking of that number
 abbrev pub booking_item : ℕ → Option Booking
-booking_item = ranged_item first_booking last_booking (λ n. record { number = n })
+booking_item = own_item booking_exists (λ n. record { number = n })

@@ -5,7 +5,7 @@
 -- card_number             the number of a card that exists
 -- card_item               the card that has a number
 use Rattle.std.specs.Prelude.{ℕ, Bool, Option}
-use Rattle.coding.specs.Ranged.{in_range, ranged_number, ranged_item}
+use Rattle.coding.specs.Ranged.{in_range, own_number, own_item}
 use Rattle.coding.specs.declared.items.Card.{Card}
 
 -- cards are 1 to 4,294,967,295
@@ -20,8 +20,8 @@ card_exists = in_range first_card last_card
 
 -- a card's number is the one printed on it
 abbrev pub card_number : Card → Option ℕ
-card_number = ranged_number first_card last_card (λ x. x.number)
+card_number = own_number card_exists (λ x. x.number)
 
 -- the card on which the number is printed
 abbrev pub card_item : ℕ → Option Card
-card_item = ranged_item first_card last_card (λ n. record { number = n })
+card_item = own_item card_exists (λ n. record { number = n })

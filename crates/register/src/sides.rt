@@ -33,7 +33,7 @@ impl Side {
 }
 
 impl<K: Coding, V: Coding, P: Permutation, A: Table, B: Table> Register<K, V, P, A, B> {
-    // A match on the side in each of these: the tables have two types, and a closure cannot be generic over which it is given.
+    // A match on the side in each of these: the tables have two types, a closure cannot be generic over which it is given, and a type parameter takes no `dyn Table`.
 
     // The table in use, and its widths.
     pub(crate) fn in_use(&self) -> Result<InUse, Refusal>

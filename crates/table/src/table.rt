@@ -24,7 +24,7 @@ pub trait Table {
     /// How many entries a group may hold.
     ghost limit: { ℕ };
 
-    // The three widths stay three numbers: they come from three places and may be any, and a struct of them would be a Shape without its facts.
+    // Three numbers, and no struct: any may come in, and `Shape` is the struct of those that pass; one without its facts would be made only to be taken apart.
 
     /// Forms the table anew, with empty slots, whatever it was before.
     fn form(&mut self, k: u32, v: u32, b: u32) -> Result<(), TableRefusal>
@@ -42,7 +42,7 @@ pub trait Table {
         ensures len { length (words self.new) ≡ length (words self.old) }
         ensures fits { fits self.new ≡ fits self.old };
 
-    // A slot and a quotient stay two numbers: a Place is what a Shape cuts, of numbers in range, and here any may come in; `size` and `entry` take a slot alone.
+    // A slot and a quotient, and no `Place`: any two numbers may come in, a `Place` is where a key stands, and `size` and `entry` take a slot alone.
 
     /// Puts an entry at the end of a slot's list.
     fn add(&mut self, slot: u64, quotient: u64, value: u64) -> Result<(), TableRefusal>
