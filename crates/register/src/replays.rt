@@ -26,9 +26,9 @@ pub fn replay<K: Coding, V: Coding, P: Permutation, A: Table, B: Table>(
 {
     let mut register = Register::assemble(parts);
     let number = calls.len().min(answers.len());
-    // By index: after a loop over `iter_mut` a proof knows the slice's length, and none of its elements.
-    for i in 0..number {
-        answers[i] = register.put(calls[i]);
+    // `answers` by index: after a loop over `answers.iter_mut().zip(calls)` (tried) a proof knows the slice's length, and none of its elements.
+    for (i, call) in calls[..number].iter().enumerate() {
+        answers[i] = register.put(*call);
     }
     (register, number)
 }
