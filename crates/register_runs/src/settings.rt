@@ -1,8 +1,8 @@
 //! What registers are made of.
 use crate::items::Sort;
 use crate::rules::Mix;
-use coding::{BookingCoding, CardCoding, LoanCoding, NightCoding};
 use blocks::{PackedTable, PlainTable};
+use coding::{BookingCoding, CardCoding, LoanCoding, NightCoding};
 use permutation::{Affine, Chain, SetUpRefusal, XorShift};
 use std::io;
 

@@ -1,10 +1,10 @@
 //! Runs of the packed table over several widths: calls drawn at random, the 49th entry of a group, 48 entries in one slot, and damaged words.
 use crate::damage::Damage;
 use crate::pair::{Pair, layout};
+use blocks::PackedTable;
 use expected::layout::Entry;
 use expected::noise::Noise;
 use expected::numbers::{power, rest};
-use blocks::PackedTable;
 use std::io;
 use table::refusal::TableRefusal::OutOfRange;
 

@@ -1,8 +1,8 @@
 //! Runs of the plain table: the calls at their edges, and damaged words.
 use crate::damage::Damage;
 use crate::pair::Pair;
-use expected::layout::Entry;
 use blocks::PlainTable;
+use expected::layout::Entry;
 use std::io;
 use table::refusal::TableRefusal::{Absent, DoesNotFit, Full, Held, OutOfRange, Unformed};
 
