@@ -1,19 +1,19 @@
 -- What stands against a key of a run, by the table's question and the run's earlier keys of the same group.
 use Rattle.std.proofs.Common.{◌≡◌, ℕ, zero, suc, ◌+◌, ◌/◌, ◌^◌, ◌<◌, ◌≤◌, Bool, true, false, cond, eqb, [], ◌∷◌, ◌++◌, Some, None, Ok, Err, Option, Result, sym, refl, ap, ◌∙◌, arith}
 use Rattle.std.proofs.lemmas.List.{append-nil}
-use Rattle.std.proofs.lemmas.Bool.{eq-eqb, ne_eqb}
+use Rattle.std.proofs.lemmas.Bool.{ne_eqb}
 use Rattle.std.specs.List.{AllByRecursion as All}
 use Rattle.table.specs.declared.refusal.TableRefusal.{TableRefusal}
 use Rattle.table.specs.Meaning.{admitted, load, value_in, weigh_held, weigh_room}
 use Rattle.table.specs.Slots.{full}
 use Rattle.model.specs.declared.refusal.Refusal.{Refusal}
 use Rattle.model.specs.declared.refusal.Refusal.TheVariants.{Table}
-use Rattle.model.specs.Entries.{Entries, content, count_if, group_load, run_of, take_one, take_room}
+use Rattle.model.specs.Entries.{Entries, content, group_load, run_of, take_one, take_room}
 use Rattle.model.proofs.Counting.{count_append}
 use Rattle.dictionary.specs.Stored.{quotient_of, slot_of, stored}
 use Rattle.dictionary.proofs.Cut.{Mixes}
 use Rattle.dictionary.proofs.Found.{load_here, weighed_here}
-use Rattle.dictionary.proofs.Scans.{list_snoc, run_snoc, take_at}
+use Rattle.dictionary.proofs.Scans.{list_snoc, take_at}
 
 -- a table's answer as what stands against a key
 abbrev pub told : Result (Unit {0}) TableRefusal → Option Refusal

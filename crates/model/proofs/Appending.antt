@@ -3,7 +3,6 @@ use Rattle.std.proofs.Common.{◌≡◌, List, [], ◌∷◌, ◌++◌, refl, ap
 use Rattle.model.specs.declared.call.Call.{Call}
 use Rattle.model.specs.Model.{Fixed, Model}
 use Rattle.model.specs.Step.{run, step}
-use Rattle.model.specs.History.{paired}
 
 module _ {K V : Type 0} (f : Fixed K V) where
   -- the machine after it

@@ -87,7 +87,7 @@ module _ {K V : Type 0} (f : Fixed K V) (law : Lawful f) (w : ℕ) where
 
   -- a run of keys ends below 2^k
   fitting : (key : K) (m n : ℕ) → f.keys.number key ≡ Some m → no_key f m 0 n ≡ None → m + n ≤ 2 ^ f.keys.width
-  fitting key m n km keys = let lt = law.keys.below key m km in let le : m ≤ 2 ^ f.keys.width = omega arith in keys_fit f law m 0 n keys le
+  fitting key m n km keys = let lt = law.keys.below key m km in let le : m ≤ 2 ^ f.keys.width = omega arith in keys_fit f law.keys m 0 n keys le
 
   -- each call
   step_balanced : (s : Model) (c : Call K V) → Well f s → Balanced s c (step f s c)

@@ -1,11 +1,10 @@
 -- The walk by places: what stands at a place of it, and of the slot that the place falls into.
 use Rattle.std.proofs.Common.{◌≡◌, ℕ, zero, suc, ◌+◌, ◌<◌, ◌≤◌, Bool, true, false, cond, eqb, [], ◌∷◌, ◌++◌, map, length, get_or, filter, sym, refl, ap, ◌∙◌, ⊎_elim, arith}
-use Rattle.std.proofs.ByRecursion.{All-append, all-has, all_kept_by, has_get_or}
-use Rattle.std.proofs.lemmas.List.{get_or-append-add, get_or_append_left, get_or-map, length-append}
-use Rattle.std.proofs.lemmas.Bool.{cases_eq, eqb-true}
+use Rattle.std.proofs.ByRecursion.{All-append, all_kept_by}
+use Rattle.std.proofs.lemmas.List.{get_or-append-add, get_or_append_left, length-append}
+use Rattle.std.proofs.lemmas.Bool.{cases_eq}
 use Rattle.std.specs.List.{AllByRecursion as All}
 use Rattle.model.specs.Entries.{Entries, slot_list, walk}
-use Rattle.model.specs.History.{is}
 use Rattle.model.proofs.SlotLoads.{length_slot}
 use Rattle.model.proofs.Walks.{length_kept}
 

@@ -5,7 +5,7 @@ use Rattle.model.specs.declared.run_refusal.RunRefusal.{RunRefusal}
 use Rattle.model.specs.Model.{Fixed, declined_at}
 use Rattle.model.specs.Step.{Asked, at_place, no_key, no_key_next, no_run, read_key, read_keys, read_run, read_value, run_length}
 use Rattle.model.specs.History.{answers_four}
-use Rattle.model.specs.Laws.{Lawful}
+use Rattle.model.specs.Laws.{LawfulCoding}
 
 module _ {K V : Type 0} (f : Fixed K V) where
   -- what holds of every refusal on sight, and of the call where its numbers are good, holds of the call as it comes
@@ -64,11 +64,11 @@ module _ {K V : Type 0} (f : Fixed K V) where
     pub read_both : P (read_run f make key n value (run_length n)) (read_run f make' key n value (run_length n))
     read_both = both_run (run_length n)
 
-  module _ (law : Lawful f) where
+  module _ (law : LawfulCoding f.keys) where
     -- one place of a run whose number is a key's
     key_fits : (m i : ℕ) (later : Option ℕ) (o : Option K) → f.keys.item m ≡ o → no_key_next i later o ≡ None → (m < 2 ^ f.keys.width) × (later ≡ None)
     key_fits m i later None e h = let z : ◌≡◌ {A = ℕ} 0 1 = cc in absurd (omega arith)
-    key_fits m i later (Some key) e h = (law.keys.below key m (law.keys.forth key m e), h)
+    key_fits m i later (Some key) e h = (law.below key m (law.forth key m e), h)
 
     -- the numbers of a run of keys stay below 2^k
     pub keys_fit : (m i n : ℕ) → no_key f m i n ≡ None → m ≤ 2 ^ f.keys.width → m + n ≤ 2 ^ f.keys.width

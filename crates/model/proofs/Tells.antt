@@ -45,7 +45,7 @@ module _ {K V : Type 0} (f : Fixed K V) where
         record {
           well = record {
             apart = apart_taken (slot_of f t.b) (kind f t.side).group (kind f t.side).limit t.list m w 0 n h ok.apart;
-            below = All-append (λ e. e.0 < 2 ^ f.keys.width) t.list (run_of m w n) ok.below (below_run m w n (2 ^ f.keys.width) (keys_fit f law m 0 n keys le));
+            below = All-append (λ e. e.0 < 2 ^ f.keys.width) t.list (run_of m w n) ok.below (below_run m w n (2 ^ f.keys.width) (keys_fit f law.keys m 0 n keys le));
             small = All-append (λ e. e.1 < 2 ^ f.values.width) t.list (run_of m w n) ok.small (small_run m w n (2 ^ f.values.width) (law.values.below value w vm));
             widths = ok.widths;
             fit = ok.fit;

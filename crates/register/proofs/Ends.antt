@@ -14,7 +14,7 @@ use Rattle.model.specs.declared.refusal.Refusal.TheVariants.{Closed}
 use Rattle.model.specs.declared.run_refusal.RunRefusal.{RunRefusal}
 use Rattle.model.specs.Entries.{Entries}
 use Rattle.model.specs.History.{accepted}
-use Rattle.model.specs.Laws.{Lawful}
+use Rattle.model.specs.Laws.{LawfulCoding}
 use Rattle.model.specs.Model.{Fixed, Model, Reply, State, answered, closed, declined, opened, other}
 use Rattle.model.specs.Step.{Asked, enlarge_fit, enlarge_room, larger_fits, read_key, read_keys, read_run, read_value, room_judged, run_end, run_length, step}
 use Rattle.model.proofs.Reading.{keys_fit}
@@ -83,17 +83,17 @@ module _ {K V : Type 0} (f : Fixed K V) where
       ∙ ap (read_keys make run.first n (f.values.number value)) good.all_keys ∙ ap (read_value (make run.first n)) good.value_number
 
   -- its keys are below 2^k
-  pub keys_end : Lawful f → (key : K) (n : ℕ) (value : V) (run : Run) → Good f key n value run → run.first + n ≤ 2 ^ f.keys.width
+  pub keys_end : LawfulCoding f.keys → (key : K) (n : ℕ) (value : V) (run : Run) → Good f key n value run → run.first + n ≤ 2 ^ f.keys.width
   keys_end law key n value run good =
-      let lt = law.keys.below key run.first good.key_number in
+      let lt = law.below key run.first good.key_number in
       let le : run.first ≤ 2 ^ f.keys.width = omega arith in
       keys_fit f law run.first 0 n good.all_keys le
 
   -- and so it is in reach
-  pub reached : Lawful f → (key : K) (n : ℕ) (value : V) (run : Run) → Good f key n value run → Reached f run.first n run.value
-  reached law key n value run good =
+  pub reached : LawfulCoding f.keys → LawfulCoding f.values → (key : K) (n : ℕ) (value : V) (run : Run) → Good f key n value run → Reached f run.first n run.value
+  reached law values key n value run good =
       let end = keys_end law key n value run good in
-      record { keys = λ i less. (omega arith, law.values.below value run.value good.value_number); value = (value, good.value_number) }
+      record { keys = λ i less. (omega arith, values.below value run.value good.value_number); value = (value, good.value_number) }
 
   -- an enlargement that is refused
   pub move_stops : (t : State) (e : Refusal) (a : Bool) → (h : Bool) → room_judged f t ≡ h → Err e ≡ moved a h → ◌≡◌ {A = Model × Reply} (enlarge_fit f t a) (opened t, declined e)

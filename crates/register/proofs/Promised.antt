@@ -1,5 +1,5 @@
 -- The promise of a history, from the machine's replies and the tables' meanings, and how one more call continues it.
-use Rattle.std.proofs.Common.{◌≡◌, ◌+◌, true, List, [], ◌∷◌, ◌++◌, map, sym, refl, ap, ◌∙◌, subst}
+use Rattle.std.proofs.Common.{◌≡◌, ◌+◌, true, List, [], ◌∷◌, ◌++◌, map, sym, ap, ◌∙◌, subst}
 use Rattle.std.proofs.lemmas.List.{map-append}
 use Rattle.std.proofs.lemmas.Bool.{false≢true}
 use Rattle.coding.specs.declared.Coding as coding
@@ -8,8 +8,8 @@ use Rattle.table.specs.declared.table.Table as table
 use Rattle.model.specs.declared.call.Call.{Call}
 use Rattle.model.specs.declared.call.Call.TheVariants.{Open, Take, Cancel, Find, Count, At, Enlarge}
 use Rattle.model.specs.declared.answer.Answer.{Answer}
-use Rattle.model.specs.Model.{Fixed, Model, on_first, closed, Reply, table_of}
-use Rattle.model.specs.Step.{step, run}
+use Rattle.model.specs.Model.{Fixed, on_first, closed, Reply, table_of}
+use Rattle.model.specs.Step.{run}
 use Rattle.model.specs.Replies.{reply_of}
 use Rattle.model.specs.History.{History, paired, held_under, taken, cancelled, quiet}
 use Rattle.model.specs.Laws.{Lawful, Listing, SameCodings, entries_with}
