@@ -11,5 +11,4 @@ pub mod Finding
 pub mod Lawful
 pub mod Promised
 pub mod Assembled
-pub mod Putting
 pub mod Replayed

@@ -1,5 +1,5 @@
 -- Lists of calls put one after the other: one more turn, the end, and two registers side by side.
-use Rattle.std.proofs.Common.{◌≡◌, ℕ, ◌+◌, ◌<◌, ◌≤◌, min, List, [], ◌∷◌, ◌++◌, length, get_or, take, drop, set, sym, ap, ◌∙◌, subst, arith}
+use Rattle.std.proofs.Common.{◌≡◌, ℕ, ◌+◌, ◌<◌, ◌≤◌, min, List, [], ◌∷◌, ◌++◌, length, get_or, take, drop, set, sym, refl, ap, ◌∙◌, subst, arith}
 use Rattle.std.proofs.lemmas.List.{take_more, take_more_set, take-take, length-take-le, drop-drop, drop-set-lt}
 use Rattle.coding.specs.declared.Coding as coding
 use Rattle.permutation.specs.declared.Permutation as permutation
@@ -23,6 +23,10 @@ pub part_number : {X : Type 0} (calls : List X) (n a m : ℕ) → n ≤ length c
 part_number calls n a m h k e = let t = length-take-le n calls h in omega arith
 
 module _ {K T V U P A B : Type 0} (kc : coding.Ghosts K T) (vc : coding.Ghosts V U) (pm : permutation.Ghosts P) (ta : table.Ghosts A) (tb : table.Ghosts B) where
+  -- a register is the same as itself
+  pub same_self : (r : Register K V P A B T U) → Same kc vc pm ta tb r r
+  same_self r = record { parts = refl; first_words = refl; second_words = refl }
+
   -- a register that is the same as one of five parts is made of them
   pub still_made : (r s : Register K V P A B T U) (p : Parts K V P A B) → MadeOf kc vc pm ta tb r p → Same kc vc pm ta tb r s → MadeOf kc vc pm ta tb s p
   still_made r s p made same = record {

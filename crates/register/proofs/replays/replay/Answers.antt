@@ -1,7 +1,6 @@
 use Rattle.std.proofs.Common.{◌≡◌, ◌<◌, length, take, drop, refl, subst, arith, rules}
 use Rattle.std.proofs.lemmas.List.{length-take-le}
-use Rattle.register.proofs.Putting.{same_self}
-use Rattle.register.proofs.Replayed.{part_promise, put_more, still_made}
+use Rattle.register.proofs.Replayed.{part_promise, put_more, same_self, still_made}
 use Rattle.register.proofs.replays.replay.Goals as goal
 
 pub loop-i-init : goal.loop-i-init
