@@ -1,11 +1,12 @@
 //! A register beside the list that it is compared with.
 use crate::machine::Machine;
-use crate::mirror::{Mirror, Parts};
+use crate::mirror::{Formulas, Mirror};
 use crate::report::{Report, is};
 use model::answer::Answer;
 use model::call::Call;
-use register::Side;
+use register::{Parts, Side};
 use std::io;
+use table::words::all_zero;
 
 /// A register, and the list.
 #[derive(Drop)]
@@ -16,7 +17,7 @@ pub struct Pair<M: Machine + Drop> {
 
 impl<M: Machine + Drop> Pair<M> {
     /// A register of these parts, which is closed.
-    pub fn new(report: &Report<'_>, machine: M, parts: Parts) -> Pair<M> {
+    pub fn new(report: &Report<'_>, machine: M, parts: Formulas) -> Pair<M> {
         let mirror = Mirror::new(report.rt.alloc(), parts);
         Pair { machine, mirror }
     }
@@ -30,10 +31,10 @@ impl<M: Machine + Drop> Pair<M> {
         }
         let used = self.mirror.opened.filter(|opened| opened.side == side);
         let Some(opened) = used else {
-            return Ok(words.iter().all(|word| *word == 0));
+            return Ok(all_zero(words));
         };
         let Parts { keys, values, .. } = self.mirror.parts;
-        let entries = self.mirror.entries(report.rt.alloc(), opened.b)?;
+        let entries = self.mirror.entries(report.rt.alloc())?;
         let layout = store.layout(keys.width(), values.width(), opened.b);
         Ok(layout.has_words(&entries, words))
     }

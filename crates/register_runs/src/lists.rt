@@ -4,7 +4,7 @@ ghost use Rattle.std.specs.Prelude.{◌≡◌};
 use crate::compare::Pair;
 use crate::items::{Numbered, Spelled};
 use crate::machine::{Machine, store};
-use crate::mirror::{Mirror, Parts};
+use crate::mirror::Mirror;
 use crate::report::Report;
 use crate::rules::Mix;
 use crate::script::{Tide, some_call};
@@ -17,7 +17,7 @@ use model::call::Call;
 use model::refusal::Refusal;
 use model::run_refusal::RunRefusal;
 use permutation::{Affine, Identity, Permutation, SetUpRefusal, XorShift};
-use register::Register;
+use register::{Parts, Register};
 use std::io;
 use table::refusal::TableRefusal;
 
@@ -30,11 +30,40 @@ const TIDE: u64 = 500;
 
 const RISE: u64 = 200;
 
-/// What happened in a list of calls.
+/// What a call came to, of what is counted.
+#[derive(Clone, Copy, PartialEq, Eq, Debug)]
+enum Outcome {
+    /// The register moved into its other table.
+    Moved,
+    /// That table had no room.
+    Tight,
+    /// It did not fit.
+    Unfit,
+    /// A take found no room.
+    Full,
+}
+
+impl Outcome {
+    /// That of a call and its answer.
+    fn of(call: Call<u64, u64>, answer: Answer<u64>) -> Option<Outcome> {
+        match (call, answer) {
+            (Call::Enlarge, Answer::Number(_)) => Some(Outcome::Moved),
+            (Call::Enlarge, Answer::Refused(Refusal::Table(TableRefusal::Full))) => {
+                Some(Outcome::Tight)
+            }
+            (Call::Enlarge, Answer::Refused(Refusal::Table(TableRefusal::DoesNotFit))) => {
+                Some(Outcome::Unfit)
+            }
+            _ => is_full(call, answer).then_some(Outcome::Full),
+        }
+    }
+}
+
+/// What happened in a list of calls: the last outcome, and how often there was each.
 #[derive(Clone, Copy, Default)]
 struct Met {
+    last: Option<Outcome>,
     moves: u64,
-    moved: bool,
     twice: u64,
     full: u64,
     tight: u64,
@@ -44,23 +73,19 @@ struct Met {
 impl Met {
     /// Counts the moves, and what was refused for want of room or fit.
     fn note(&mut self, call: Call<u64, u64>, answer: Answer<u64>) {
-        let before = self.moved;
-        self.moved = false;
-        match (call, answer) {
-            (Call::Enlarge, Answer::Number(_)) => {
-                self.moved = true;
+        let outcome = Outcome::of(call, answer);
+        match outcome {
+            Some(Outcome::Moved) => {
                 self.moves = self.moves.saturating_add(1);
-                self.twice = self.twice.saturating_add(u64::from(before));
+                let again = self.last == outcome;
+                self.twice = self.twice.saturating_add(u64::from(again));
             }
-            (Call::Enlarge, Answer::Refused(Refusal::Table(TableRefusal::Full))) => {
-                self.tight = self.tight.saturating_add(1)
-            }
-            (Call::Enlarge, Answer::Refused(Refusal::Table(TableRefusal::DoesNotFit))) => {
-                self.unfit = self.unfit.saturating_add(1)
-            }
-            _ if is_full(call, answer) => self.full = self.full.saturating_add(1),
-            _ => {}
+            Some(Outcome::Tight) => self.tight = self.tight.saturating_add(1),
+            Some(Outcome::Unfit) => self.unfit = self.unfit.saturating_add(1),
+            Some(Outcome::Full) => self.full = self.full.saturating_add(1),
+            None => {}
         }
+        self.last = outcome;
     }
 }
 
@@ -98,7 +123,7 @@ impl<M: Machine + Drop> Pair<M> {
         }
         report.ended(what)?;
         let held = self.mirror.list.len();
-        let b = self.mirror.opened.map_or(0, |opened| opened.b);
+        let b = self.mirror.bits();
         println!(report.rt;
             "  {held} held in 2^{b} slots after {} moves, {} of them right after another",
             met.moves, met.twice
@@ -137,11 +162,11 @@ impl<
         let parts = Parts {
             keys: self.key_sort,
             values: self.value_sort,
-            mix: self.mix,
+            permutation: self.mix,
             first: store(&first),
             second: store(&second),
         };
-        let machine = Register::assemble(register::Parts {
+        let machine = Register::assemble(Parts {
             keys: self.keys,
             values: self.values,
             permutation,

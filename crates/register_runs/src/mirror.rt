@@ -1,46 +1,20 @@
 //! What a register should answer: a list of what is held, in order of arrival, and formulas for where it stands.
 use crate::items::Sort;
 use crate::rules::{Mix, Store};
+use dictionary::Run;
 use expected::held::{Held, load, value};
 use expected::layout::Entry;
-use expected::numbers::power;
+use expected::numbers::{power, times};
 use model::answer::Answer;
 use model::call::Call;
 use model::refusal::Refusal;
 use model::run_refusal::RunRefusal;
-use register::Side;
+use register::{Parts, Side};
 use std::alloc::{AllocError, Global};
 use table::refusal::TableRefusal;
 
-/// The n key numbers from m on, and a value number.
-#[derive(Clone, Copy, PartialEq, Eq, Debug)]
-pub struct Run {
-    pub m: u64,
-    pub n: u64,
-    pub w: u64,
-}
-
-impl Run {
-    /// The call that takes it.
-    pub fn take(self) -> Call<u64, u64> {
-        Call::Take(self.m, self.n, self.w)
-    }
-
-    /// The call that cancels it.
-    pub fn cancel(self) -> Call<u64, u64> {
-        Call::Cancel(self.m, self.n, self.w)
-    }
-}
-
-/// What a register is made of.
-#[derive(Clone, Copy, PartialEq, Eq, Debug)]
-pub struct Parts {
-    pub keys: Sort,
-    pub values: Sort,
-    pub mix: Mix,
-    pub first: Store,
-    pub second: Store,
-}
+/// What the formulas are told of each part of a register.
+pub type Formulas = Parts<Sort, Sort, Mix, Store, Store>;
 
 /// Of an open register: the table in use, which has 2^b slots.
 #[derive(Clone, Copy, PartialEq, Eq, Debug)]
@@ -52,7 +26,7 @@ pub struct Opened {
 /// A register that is only a list.
 #[derive(Drop)]
 pub struct Mirror {
-    pub parts: Parts,
+    pub parts: Formulas,
     pub opened: Option<Opened>,
     pub list: Vec<Held>,
 }
@@ -82,12 +56,12 @@ fn answer(done: Result<Answer<u64>, Refusal>) -> Answer<u64> {
 
 /// The answer to a run.
 fn run_answer(run: Run, done: Result<(), RunRefusal>) -> Answer<u64> {
-    done.map_or_else(Answer::RefusedAt, |_| Answer::Number(run.n))
+    done.map_or_else(Answer::RefusedAt, |_| Answer::Number(run.length))
 }
 
 impl Mirror {
     /// Closed.
-    pub fn new(heap: Global, parts: Parts) -> Mirror {
+    pub fn new(heap: Global, parts: Formulas) -> Mirror {
         Mirror {
             parts,
             opened: None,
@@ -108,15 +82,19 @@ impl Mirror {
         self.opened.ok_or(Refusal::Closed)
     }
 
+    /// How many bits the number of a slot has; none while it is closed.
+    pub fn bits(&self) -> u32 {
+        self.opened.map_or(0, |opened| opened.b)
+    }
+
     /// How many quotients a slot has, at b.
     fn quotients(&self, b: u32) -> u64 {
         power(self.parts.keys.width().saturating_sub(b))
     }
 
-    /// How many keys of the list stand in the group of one, at b.
-    fn load(&self, held: Held, store: Store, b: u32) -> u64 {
-        let size = self.quotients(b).saturating_mul(store.kind.group());
-        load(&self.list, size, held.mixed)
+    /// How many permuted numbers a group has, at b.
+    fn group(&self, store: Store, b: u32) -> u64 {
+        self.quotients(b).saturating_mul(store.kind.group())
     }
 
     fn open(&mut self, b: u32) -> Result<Answer<u64>, Refusal> {
@@ -124,7 +102,7 @@ impl Mirror {
         if self.opened.is_some() {
             return Err(Refusal::AlreadyOpen);
         }
-        if self.parts.mix.width != k {
+        if self.parts.permutation.width != k {
             return Err(Refusal::PermutationWidth);
         }
         if !self.parts.first.fits(k, self.parts.values.width(), b) {
@@ -137,51 +115,75 @@ impl Mirror {
         Ok(Answer::Number(u64::from(b)))
     }
 
+    /// Refuses a number that no key has.
+    fn known(&self, key: u64) -> Result<(), Refusal> {
+        if !self.parts.keys.has(key) {
+            return Err(Refusal::UnknownKey);
+        }
+        Ok(())
+    }
+
     /// What stands against a run before its keys are looked for; else the table in use.
     fn read(&self, run: Run) -> Result<Opened, RunRefusal> {
-        if run.n == 0 || run.n > 64 {
+        if run.length == 0 || run.length > 64 {
             return Err(Refusal::RunLength.at(0));
         }
-        let unknown = (0..run.n).find(|i| !self.parts.keys.has(run.m.saturating_add(*i)));
-        if let Some(place) = unknown {
-            return Err(Refusal::UnknownKey.at(place));
-        }
-        if !self.parts.values.has(run.w) {
+        (0..run.length).try_for_each(|place| {
+            let known = self.known(run.first.saturating_add(place));
+            known.map_err(|why| why.at(place))
+        })?;
+        if !self.parts.values.has(run.value) {
             return Err(Refusal::UnknownValue.at(0));
         }
         self.in_use().map_err(|why| why.at(0))
     }
 
-    /// What stands against one more key.
-    fn against(&self, held: Held, opened: Opened) -> Result<(), Refusal> {
-        if value(&self.list, held.key).is_some() {
+    /// What is held of the key at a place of a run, once it is taken.
+    fn held(&self, run: Run, place: u64) -> Held {
+        let key = run.first.saturating_add(place);
+        Held {
+            key,
+            value: run.value,
+            mixed: self.parts.permutation.of(key),
+        }
+    }
+
+    /// What stands against the key at a place of a run, those before it being taken.
+    fn against(&self, run: Run, place: u64, opened: Opened) -> Result<(), Refusal> {
+        let Held { key, mixed, .. } = self.held(run, place);
+        if value(&self.list, key).is_some() {
             return Err(Refusal::Table(TableRefusal::Held));
         }
         let store = self.store(opened.side);
-        if self.load(held, store, opened.b) >= store.kind.limit() {
+        let size = self.group(store, opened.b);
+        let taken = (0..place)
+            .filter(|i| times(self.held(run, *i).mixed, size) == times(mixed, size))
+            .count() as u64;
+        if load(&self.list, size, mixed).saturating_add(taken) >= store.kind.limit() {
             return Err(Refusal::Table(TableRefusal::Full));
         }
         Ok(())
     }
 
-    /// Takes a run one key after the other, and forgets it all at the first refusal.
-    fn take(&mut self, run: Run, opened: Opened) -> Result<Result<(), RunRefusal>, AllocError> {
-        let before = self.list.len();
-        for place in 0..run.n {
-            let key = run.m.saturating_add(place);
-            let held = Held {
-                key,
-                value: run.w,
-                mixed: self.parts.mix.of(key),
-            };
-            // No `?`: what was taken is forgotten first, and memory that runs out is another error.
-            if let Err(why) = self.against(held, opened) {
-                self.list.truncate(before);
-                return Ok(Err(why.at(place)));
+    /// What stands against a run.
+    fn may_take(&self, run: Run) -> Result<(), RunRefusal> {
+        let opened = self.read(run)?;
+        (0..run.length).try_for_each(|place| {
+            let free = self.against(run, place, opened);
+            free.map_err(|why| why.at(place))
+        })
+    }
+
+    /// Takes a run, if nothing stands against it.
+    fn take(&mut self, run: Run) -> Result<Answer<u64>, AllocError> {
+        let done = self.may_take(run);
+        if done.is_ok() {
+            for place in 0..run.length {
+                let held = self.held(run, place);
+                self.list.push(held)?;
             }
-            self.list.push(held)?;
         }
-        Ok(Ok(()))
+        Ok(run_answer(run, done))
     }
 
     /// What stands against cancelling one key.
@@ -195,52 +197,43 @@ impl Mirror {
     /// Cancels a run.
     fn cancel(&mut self, run: Run) -> Result<(), RunRefusal> {
         self.read(run)?;
-        (0..run.n).try_for_each(|place| {
-            let found = self.against_cancel(run.m.saturating_add(place), run.w);
+        (0..run.length).try_for_each(|place| {
+            let found = self.against_cancel(run.first.saturating_add(place), run.value);
             found.map_err(|why| why.at(place))
         })?;
         self.list
-            .retain(|e| e.key < run.m || e.key - run.m >= run.n);
+            .retain(|e| e.key < run.first || e.key - run.first >= run.length);
         Ok(())
     }
 
     fn find(&self, m: u64) -> Result<Answer<u64>, Refusal> {
-        if !self.parts.keys.has(m) {
-            return Err(Refusal::UnknownKey);
-        }
+        self.known(m)?;
         self.in_use()?;
         Ok(Answer::Value(value(&self.list, m).ok_or(TableRefusal::Absent)?))
     }
 
     /// What is held, slots upwards.
-    fn walk(&self, b: u32) -> Result<Vec<Held>, AllocError> {
-        let quotients = self.quotients(b);
+    fn walk(&self) -> Result<Vec<Held>, AllocError> {
+        let quotients = self.quotients(self.bits());
         let mut walk = self.list.clone()?;
         walk.sort_by_key(|e| e.entry(quotients).slot)?;
         Ok(walk)
     }
 
-    /// The entries of a table with 2^b slots, slots upwards.
-    pub fn entries(&self, heap: Global, b: u32) -> Result<Vec<Entry>, AllocError> {
-        let quotients = self.quotients(b);
-        self.walk(b)?
+    /// The entries of the table in use, slots upwards.
+    pub fn entries(&self, heap: Global) -> Result<Vec<Entry>, AllocError> {
+        let quotients = self.quotients(self.bits());
+        self.walk()?
             .iter()
             .map(|e| e.entry(quotients))
             .collect(heap)
     }
 
     /// The entry at a place of the walk.
-    fn at(&self, i: u64) -> Result<Answer<u64>, AllocError> {
-        let Ok(opened) = self.in_use() else {
-            return Ok(Answer::Refused(Refusal::Closed));
-        };
-        let walk = self.walk(opened.b)?;
-        Ok(
-            walk.get(i as usize)
-                .map_or(Answer::Refused(Refusal::NoSuchPlace), |e| {
-                    Answer::Entry(e.key, e.value)
-                }),
-        )
+    fn at(&self, walk: &[Held], i: u64) -> Result<Answer<u64>, Refusal> {
+        self.in_use()?;
+        let e = walk.get(i as usize).ok_or(Refusal::NoSuchPlace)?;
+        Ok(Answer::Entry(e.key, e.value))
     }
 
     /// Changes to the other table, with one more bit of slots.
@@ -252,10 +245,11 @@ impl Mirror {
         if !store.fits(self.parts.keys.width(), self.parts.values.width(), b) {
             return Err(Refusal::Table(TableRefusal::DoesNotFit));
         }
+        let size = self.group(store, b);
         if self
             .list
             .iter()
-            .any(|e| self.load(*e, store, b) > store.kind.limit())
+            .any(|e| load(&self.list, size, e.mixed) > store.kind.limit())
         {
             return Err(Refusal::Table(TableRefusal::Full));
         }
@@ -267,20 +261,22 @@ impl Mirror {
     pub fn put(&mut self, call: Call<u64, u64>) -> Result<Answer<u64>, AllocError> {
         Ok(match call {
             Call::Open(b) => answer(self.open(b)),
-            Call::Take(m, n, w) => {
-                let run = Run { m, n, w };
-                match self.read(run) {
-                    Ok(opened) => run_answer(run, self.take(run, opened)?),
-                    Err(refusal) => Answer::RefusedAt(refusal),
-                }
-            }
-            Call::Cancel(m, n, w) => {
-                let run = Run { m, n, w };
+            Call::Take(first, length, value) => self.take(Run {
+                first,
+                length,
+                value,
+            })?,
+            Call::Cancel(first, length, value) => {
+                let run = Run {
+                    first,
+                    length,
+                    value,
+                };
                 run_answer(run, self.cancel(run))
             }
             Call::Find(m) => answer(self.find(m)),
             Call::Count => Answer::Number(self.list.len() as u64),
-            Call::At(i) => self.at(i)?,
+            Call::At(i) => answer(self.at(&self.walk()?, i)),
             Call::Enlarge => answer(self.enlarge()),
         })
     }

@@ -3,7 +3,7 @@ use crate::compare::Pair;
 use crate::items::Sort;
 use crate::lists::is_full;
 use crate::machine::{Machine, numbered, spelled};
-use crate::mirror::{Mirror, Parts};
+use crate::mirror::{Formulas, Mirror};
 use crate::report::{Report, is};
 use crate::rules::{Mix, Store};
 use crate::script::{Tide, some_call};
@@ -14,7 +14,7 @@ use expected::noise::Noise;
 use model::answer::Answer;
 use model::call::Call;
 use permutation::Identity;
-use register::{replay, replay_both};
+use register::{Parts, replay, replay_both};
 use std::io;
 
 /// What stands where no answer was written.
@@ -28,10 +28,10 @@ const MIX: Mix = Mix {
 };
 
 /// Two packed tables under a mixing permutation.
-const PACKED: Parts = Parts {
+const PACKED: Formulas = Parts {
     keys: Sort::Nights,
     values: Sort::Bookings,
-    mix: MIX,
+    permutation: MIX,
     first: Store {
         kind: Kind::Packed,
         words: 150,
@@ -43,10 +43,10 @@ const PACKED: Parts = Parts {
 };
 
 /// Two plain tables under the identity.
-const PLAIN: Parts = Parts {
+const PLAIN: Formulas = Parts {
     keys: Sort::Nights,
     values: Sort::Bookings,
-    mix: SAME,
+    permutation: SAME,
     first: Store {
         kind: Kind::Plain,
         words: 520,
@@ -89,7 +89,7 @@ fn room_for(rt: &HostRuntime, number: usize) -> io::Result<Vec<Answer<Booking>>>
 fn check<M: Machine + Drop>(
     report: &mut Report<'_>,
     machine: M,
-    parts: Parts,
+    parts: Formulas,
     calls: &[Call<u64, u64>],
     answers: &[Answer<Booking>],
 ) -> io::Result<()> {
@@ -115,7 +115,7 @@ fn replayed(report: &mut Report<'_>, number: u64, room: usize) -> io::Result<()>
     let calls = calls_from(rt, 4, number)?;
     let items = items_of(rt, &calls)?;
     let mut answers = room_for(rt, room)?;
-    let parts = register::Parts {
+    let parts = Parts {
         keys: NightCoding,
         values: BookingCoding,
         permutation,
@@ -180,14 +180,14 @@ fn replayed_on_both(
     let items = items_of(rt, &calls)?;
     let mut answers = room_for(rt, rooms.0)?;
     let mut others = room_for(rt, rooms.1)?;
-    let one = register::Parts {
+    let one = Parts {
         keys: NightCoding,
         values: BookingCoding,
         permutation: mixed,
         first: packed_table(rt, 150)?,
         second: packed_table(rt, 290)?,
     };
-    let other = register::Parts {
+    let other = Parts {
         keys: NightCoding,
         values: BookingCoding,
         permutation: straight,

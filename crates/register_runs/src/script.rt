@@ -1,6 +1,7 @@
 //! Calls that look random: few keys, so that groups fill, and at times what is to be refused.
 use crate::items::Sort;
-use crate::mirror::{Mirror, Run};
+use crate::mirror::Mirror;
+use dictionary::Run;
 use expected::noise::Noise;
 use model::call::Call;
 
@@ -53,12 +54,12 @@ fn some_number(noise: &mut Noise, sort: Sort) -> u64 {
 
 /// A key number, its run's length, and a value number.
 fn some_run(noise: &mut Noise, mirror: &Mirror) -> Run {
-    let mut m = some_number(noise, mirror.parts.keys);
+    let mut first = some_number(noise, mirror.parts.keys);
     if noise.below(25) != 0 {
-        m = m.saturating_add(noise.below(44));
+        first = first.saturating_add(noise.below(44));
     }
-    let w = some_number(noise, mirror.parts.values);
-    let n = match noise.below(60) {
+    let value = some_number(noise, mirror.parts.values);
+    let length = match noise.below(60) {
         0 => 0,
         1 => 65,
         2 => u64::MAX,
@@ -66,7 +67,11 @@ fn some_run(noise: &mut Noise, mirror: &Mirror) -> Run {
         4 | 5 | 6 | 7 => noise.below(24),
         _ => noise.below(6).saturating_add(1),
     };
-    Run { m, n, w }
+    Run {
+        first,
+        length,
+        value,
+    }
 }
 
 /// A run that begins at a key that is held, under its value; any run where none is.
@@ -74,9 +79,9 @@ fn held_run(noise: &mut Noise, mirror: &Mirror) -> Run {
     let i = noise.below(mirror.list.len() as u64);
     match mirror.list.get(i as usize) {
         Some(e) => Run {
-            m: e.key,
-            n: noise.below(4).max(1),
-            w: e.value,
+            first: e.key,
+            length: noise.below(4).max(1),
+            value: e.value,
         },
         None => some_run(noise, mirror),
     }
@@ -86,6 +91,16 @@ fn held_run(noise: &mut Noise, mirror: &Mirror) -> Run {
 fn some_opening(noise: &mut Noise, mirror: &Mirror) -> u32 {
     let b = (noise.next() % 40) as u32;
     if mirror.opened.is_some() { b } else { b + 21 }
+}
+
+/// The call that takes a run.
+fn take(run: Run) -> Call<u64, u64> {
+    Call::Take(run.first, run.length, run.value)
+}
+
+/// The call that cancels a run.
+fn cancel(run: Run) -> Call<u64, u64> {
+    Call::Cancel(run.first, run.length, run.value)
 }
 
 /// Whether more is taken than cancelled, or less.
@@ -101,17 +116,20 @@ pub fn some_call(noise: &mut Noise, mirror: &Mirror, tide: Tide) -> Call<u64, u6
     let held = held_run(noise, mirror);
     match noise.below(24) {
         0 | 1 | 2 | 3 | 4 | 5 | 6 | 7 => match tide {
-            Tide::Rising => run.take(),
-            Tide::Falling => held.cancel(),
+            Tide::Rising => take(run),
+            Tide::Falling => cancel(held),
         },
-        8 => run.take(),
-        9 | 10 | 11 => held.cancel(),
-        12 => run.cancel(),
-        13 => Run { w: run.w, ..held }.cancel(),
-        14 | 15 => Call::Find(run.m),
-        16 => Call::Find(held.m),
+        8 => take(run),
+        9 | 10 | 11 => cancel(held),
+        12 => cancel(run),
+        13 => cancel(Run {
+            value: run.value,
+            ..held
+        }),
+        14 | 15 => Call::Find(run.first),
+        16 => Call::Find(held.first),
         17 | 18 | 19 => Call::At(noise.below((mirror.list.len() as u64).saturating_add(3))),
-        20 => Call::At(run.n),
+        20 => Call::At(run.length),
         21 => Call::Open(some_opening(noise, mirror)),
         _ if mirror.opened.is_some() => Call::Count,
         _ => Call::Enlarge,

@@ -8,7 +8,9 @@ mod damage;
 mod packed_table;
 mod pair;
 mod plain_table;
+mod refused;
 mod tried;
+mod widths;
 
 fn main(rt: HostRuntime) -> io::Result<()> {
     plain_table::run(&rt)?;

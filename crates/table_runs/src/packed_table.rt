@@ -1,20 +1,13 @@
 //! Runs of the packed table over several widths: calls drawn at random, the 49th entry of a group, 48 entries in one slot, and damaged words.
 use crate::damage::Damage;
-use crate::pair::{Pair, layout};
+use crate::pair::Pair;
+use crate::widths::Widths;
 use blocks::PackedTable;
 use expected::layout::Entry;
 use expected::noise::Noise;
 use expected::numbers::{power, rest};
 use std::io;
 use table::refusal::TableRefusal::OutOfRange;
-
-/// Widths of key numbers, of value numbers, and of slot numbers.
-#[derive(Clone, Copy)]
-struct Widths {
-    k: u32,
-    v: u32,
-    b: u32,
-}
 
 /// Where and what a call is tried with.
 #[derive(Clone, Copy)]
@@ -38,7 +31,7 @@ impl Widths {
     /// A table over as many words as these widths need, and two more.
     fn formed(self, rt: &HostRuntime) -> io::Result<Pair<PackedTable>> {
         let Widths { k, v, b } = self;
-        let block = layout::<PackedTable>(k, v, b).block();
+        let block = self.layout::<PackedTable>().block();
         let words = block.saturating_mul(power(b.saturating_sub(4)));
         let mut pair = Pair::new(rt, words.saturating_add(2) as usize)?;
         pair.form(k, v, b, Ok(()));
@@ -159,33 +152,50 @@ const HELD: [Entry; 4] = [
     },
 ];
 
-/// How many words, the widths, and whether these fit.
-const FITS: [(usize, u32, u32, u32, bool); 12] = [
-    (31, 20, 24, 4, true),
-    (62, 20, 24, 5, true),
-    (30, 20, 24, 4, false),
-    (61, 20, 24, 5, false),
-    (1000, 20, 24, 3, false),
-    (1000, 20, 24, 21, false),
-    (1000, 33, 24, 4, false),
-    (1000, 20, 33, 4, false),
-    (1000, 4, 24, 4, false),
-    (1000, u32::MAX, u32::MAX, u32::MAX, false),
-    (2, 5, 0, 4, true),
-    (1, 5, 0, 4, false),
+/// How many words, and widths that fit them.
+const FIT: [(usize, Widths); 3] = [
+    (31, Widths { k: 20, v: 24, b: 4 }),
+    (62, Widths { k: 20, v: 24, b: 5 }),
+    (2, Widths { k: 5, v: 0, b: 4 }),
+];
+
+/// How many words, and widths that do not fit them.
+const UNFIT: [(usize, Widths); 9] = [
+    (30, Widths { k: 20, v: 24, b: 4 }),
+    (61, Widths { k: 20, v: 24, b: 5 }),
+    (1000, Widths { k: 20, v: 24, b: 3 }),
+    (
+        1000,
+        Widths {
+            k: 20,
+            v: 24,
+            b: 21,
+        },
+    ),
+    (1000, Widths { k: 33, v: 24, b: 4 }),
+    (1000, Widths { k: 20, v: 33, b: 4 }),
+    (1000, Widths { k: 4, v: 24, b: 4 }),
+    (
+        1000,
+        Widths {
+            k: u32::MAX,
+            v: u32::MAX,
+            b: u32::MAX,
+        },
+    ),
+    (1, Widths { k: 5, v: 0, b: 4 }),
 ];
 
 /// Damaged words: two blocks of 31, with quotients of 15 bits and values of 24, and three words past them.
 fn damaged(rt: &HostRuntime) -> io::Result<()> {
-    let mut t = Damage::<PackedTable>::new(rt, 65, (20, 24, 5), &HELD)?;
+    let sound = Widths { k: 20, v: 24, b: 5 };
+    let mut t = Damage::<PackedTable>::new(rt, 65, sound, &HELD)?;
     t.kept(&[HELD[1], HELD[3]])?;
-    for (words, k, v, b, fits) in FITS {
-        let words = vec![in rt.alloc(); 0u64; words]?;
-        if fits {
-            t.empty(words, k, v, b);
-        } else {
-            t.unfit(words, k, v, b);
-        }
+    for (words, widths) in FIT {
+        t.empty(vec![in rt.alloc(); 0u64; words]?, widths);
+    }
+    for (words, widths) in UNFIT {
+        t.unfit(vec![in rt.alloc(); 0u64; words]?, widths);
     }
     t.show(rt, "sound words, and which widths fit")?;
     t.wrong(0, 0x1_FFFF_FFFF_FFFF, 0)?;

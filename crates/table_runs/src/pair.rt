@@ -1,8 +1,9 @@
 //! A table beside the plain list of entries that it should hold; after each call the words are compared.
 use crate::content::Content;
+use crate::refused::is;
 use crate::tried::Tried;
-use expected::layout::{Entry, Layout};
-use expected::refusals::table_number;
+use crate::widths::Widths;
+use expected::layout::Entry;
 use std::io;
 use table::refusal::TableRefusal;
 use tally::tally::Tally;
@@ -17,32 +18,12 @@ pub struct Pair<T: Tried> {
     pub full: u64,
 }
 
-/// Whether an answer is the wanted one, and its refusal has its number.
-pub fn is<V: PartialEq + Drop>(
-    got: Result<V, TableRefusal>,
-    want: Result<V, TableRefusal>,
-) -> bool {
-    got == want
-        && got
-            .err()
-            .is_none_or(|why| why.number() == table_number(why))
-}
-
-/// How a table of these widths stands in its words.
-pub fn layout<T: Tried>(k: u32, v: u32, b: u32) -> Layout {
-    Layout {
-        kind: T::kind(),
-        quotient: k.saturating_sub(b),
-        value: v,
-    }
-}
-
 impl<T: Tried> Pair<T> {
     /// An unformed table over so many words, which were not zero.
     pub fn new(rt: &HostRuntime, words: usize) -> io::Result<Pair<T>> {
         Ok(Pair {
             table: T::over(vec![in rt.alloc(); 7u64; words]?),
-            content: Content::new(rt.alloc(), layout::<T>(0, 0, 0)),
+            content: Content::new(rt.alloc(), Widths { k: 0, v: 0, b: 0 }.layout::<T>()),
             tally: Tally::new(),
             held: 0,
             full: 0,
@@ -62,7 +43,7 @@ impl<T: Tried> Pair<T> {
     pub fn form(&mut self, k: u32, v: u32, b: u32, want: Result<(), TableRefusal>) {
         let got = self.table.form(k, v, b);
         if want.is_ok() {
-            self.content.formed(layout::<T>(k, v, b));
+            self.content.formed(Widths { k, v, b }.layout::<T>());
         }
         self.count(is(got, want));
     }

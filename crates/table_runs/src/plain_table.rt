@@ -1,6 +1,7 @@
 //! Runs of the plain table: the calls at their edges, and damaged words.
 use crate::damage::Damage;
 use crate::pair::Pair;
+use crate::widths::Widths;
 use blocks::PlainTable;
 use expected::layout::Entry;
 use std::io;
@@ -123,12 +124,13 @@ fn word(quotient: u64, value: u64) -> u64 {
 
 /// Damaged words, over 4 slots and 3 words past them.
 fn damaged(rt: &HostRuntime) -> io::Result<()> {
-    let mut t = Damage::<PlainTable>::new(rt, 67, (10, 8, 2), &HELD)?;
+    let sound = Widths { k: 10, v: 8, b: 2 };
+    let mut t = Damage::<PlainTable>::new(rt, 67, sound, &HELD)?;
     t.kept(&HELD[..1])?;
-    t.unfit_too(33, 8, 2)?;
-    t.unfit_too(10, 33, 2)?;
-    t.unfit_too(2, 8, 2)?;
-    t.unfit_too(10, 8, 3)?;
+    t.unfit_too(Widths { k: 33, ..sound })?;
+    t.unfit_too(Widths { v: 33, ..sound })?;
+    t.unfit_too(Widths { k: 2, ..sound })?;
+    t.unfit_too(Widths { b: 3, ..sound })?;
     t.show(rt, "sound words, and widths that do not fit")?;
     t.wrong(0, 16, 0)?;
     t.wrong(0, u64::MAX, 0)?;

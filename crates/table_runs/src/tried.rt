@@ -1,4 +1,5 @@
 //! The tables as the runs see them.
+use crate::widths::Widths;
 use blocks::{PackedTable, PlainTable};
 use expected::shown::Shown;
 use table::check_refusal::CheckRefusal;
@@ -9,10 +10,10 @@ pub trait Tried: Shown + Drop {
     fn over(words: Vec<u64>) -> Self;
 
     /// The table that words are kept as.
-    fn kept(words: Vec<u64>, k: u32, v: u32, b: u32) -> Self;
+    fn kept(words: Vec<u64>, widths: Widths) -> Self;
 
     /// What a check of words answers.
-    fn checked(words: &[u64], k: u32, v: u32, b: u32) -> Result<(), CheckRefusal>;
+    fn checked(words: &[u64], widths: Widths) -> Result<(), CheckRefusal>;
 }
 
 impl Tried for PlainTable {
@@ -20,12 +21,12 @@ impl Tried for PlainTable {
         PlainTable::set_up(words)
     }
 
-    fn kept(words: Vec<u64>, k: u32, v: u32, b: u32) -> PlainTable {
-        PlainTable::keep(words, k, v, b)
+    fn kept(words: Vec<u64>, widths: Widths) -> PlainTable {
+        PlainTable::keep(words, widths.k, widths.v, widths.b)
     }
 
-    fn checked(words: &[u64], k: u32, v: u32, b: u32) -> Result<(), CheckRefusal> {
-        PlainTable::check(words, k, v, b)
+    fn checked(words: &[u64], widths: Widths) -> Result<(), CheckRefusal> {
+        PlainTable::check(words, widths.k, widths.v, widths.b)
     }
 }
 
@@ -34,11 +35,11 @@ impl Tried for PackedTable {
         PackedTable::set_up(words)
     }
 
-    fn kept(words: Vec<u64>, k: u32, v: u32, b: u32) -> PackedTable {
-        PackedTable::keep(words, k, v, b)
+    fn kept(words: Vec<u64>, widths: Widths) -> PackedTable {
+        PackedTable::keep(words, widths.k, widths.v, widths.b)
     }
 
-    fn checked(words: &[u64], k: u32, v: u32, b: u32) -> Result<(), CheckRefusal> {
-        PackedTable::check(words, k, v, b)
+    fn checked(words: &[u64], widths: Widths) -> Result<(), CheckRefusal> {
+        PackedTable::check(words, widths.k, widths.v, widths.b)
     }
 }

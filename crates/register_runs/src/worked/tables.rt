@@ -12,6 +12,7 @@ use register::Side;
 use std::io;
 use table::refusal::TableRefusal;
 use table::table::Table;
+use table::words::all_zero;
 
 pub fn full_groups(report: &mut Report<'_>) -> io::Result<()> {
     let steps = [
@@ -117,11 +118,6 @@ pub fn enlarged(report: &mut Report<'_>) -> io::Result<()> {
     report.ended("enlargements without room or fit")
 }
 
-/// Whether all words are zero.
-fn is_clear(words: &[u64]) -> bool {
-    words.iter().all(|word| *word == 0)
-}
-
 /// Tables that were formed and filled are cleared by the register that is made of them.
 pub fn filled_before(report: &mut Report<'_>) -> io::Result<()> {
     let Ok(same) = Identity::new(20) else {
@@ -133,10 +129,10 @@ pub fn filled_before(report: &mut Report<'_>) -> io::Result<()> {
     report.part.count(formed && one.add(3, 17, 9).is_ok() && other.add(3, 17, 9).is_ok());
     report
         .part
-        .count(!is_clear(one.words()) && !is_clear(other.words()));
+        .count(!all_zero(one.words()) && !all_zero(other.words()));
     let register = nights(same, one, other);
     report.part.count(
-        is_clear(register.words(Side::First)) && is_clear(register.words(Side::Second)),
+        all_zero(register.words(Side::First)) && all_zero(register.words(Side::Second)),
     );
     let steps = [
         (Count, Number(0)),
