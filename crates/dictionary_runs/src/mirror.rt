@@ -17,6 +17,7 @@ pub struct Room {
     pub most: u32,
 }
 
+// The register has a type like it, and the dictionary stands below the register.
 /// One of the two tables.
 #[derive(Clone, Copy, PartialEq, Eq, Debug)]
 pub enum Side {
