@@ -4,7 +4,7 @@ use dictionary::Run;
 use expected::held::{Held, load, value};
 use expected::kind::Kind;
 use expected::layout::{Entry, Layout};
-use expected::numbers::power;
+use expected::numbers::{power, times};
 use model::refusal::Refusal;
 use model::run_refusal::RunRefusal;
 use std::alloc::{AllocError, Global};
@@ -17,6 +17,7 @@ pub struct Room {
     pub most: u32,
 }
 
+// The register has a type like it, and the dictionary stands below the register.
 /// One of the two tables.
 #[derive(Clone, Copy, PartialEq, Eq, Debug)]
 pub enum Side {
@@ -56,10 +57,14 @@ impl Mirror {
         }
     }
 
-    /// What is held of a key number, under a value number.
-    fn held(&self, key: u64, value: u64) -> Held {
-        let mixed = self.mixed.get(key as usize).copied().unwrap_or(key);
-        Held { key, value, mixed }
+    /// What is held of the key at a place of a run, once it is taken.
+    fn held(&self, run: Run, place: u64) -> Held {
+        let key = run.first.saturating_add(place);
+        Held {
+            key,
+            value: run.value,
+            mixed: self.mixed.get(key as usize).copied().unwrap_or(key),
+        }
     }
 
     /// How many quotients a slot has, at b.
@@ -67,10 +72,9 @@ impl Mirror {
         power(self.k.saturating_sub(b))
     }
 
-    /// How many keys stand in the group of one, at b, in a table of a kind.
-    fn load(&self, held: Held, kind: Kind, b: u32) -> u64 {
-        let size = self.quotients(b).saturating_mul(kind.group());
-        load(&self.list, size, held.mixed)
+    /// How many permuted numbers a group has, at b, in a table of a kind.
+    fn group(&self, kind: Kind, b: u32) -> u64 {
+        self.quotients(b).saturating_mul(kind.group())
     }
 
     fn look_up(&self, key: u64) -> Result<u64, TableRefusal> {
@@ -80,34 +84,48 @@ impl Mirror {
         value(&self.list, key).ok_or(TableRefusal::Absent)
     }
 
-    /// What stands against one more key.
-    fn against(&self, held: Held) -> Result<(), TableRefusal> {
-        if held.value >= power(self.v) || held.key >= power(self.k) {
+    /// What stands against the key at a place of a run, those before it being taken.
+    fn against(&self, run: Run, place: u64) -> Result<(), TableRefusal> {
+        let Held {
+            key,
+            value: w,
+            mixed,
+        } = self.held(run, place);
+        if w >= power(self.v) || key >= power(self.k) {
             return Err(TableRefusal::OutOfRange);
         }
-        if value(&self.list, held.key).is_some() {
+        if value(&self.list, key).is_some() {
             return Err(TableRefusal::Held);
         }
         let kind = self.room(self.side).kind;
-        if self.load(held, kind, self.b) >= kind.limit() {
+        let size = self.group(kind, self.b);
+        let taken = (0..place)
+            .filter(|i| times(self.held(run, *i).mixed, size) == times(mixed, size))
+            .count() as u64;
+        if load(&self.list, size, mixed).saturating_add(taken) >= kind.limit() {
             return Err(TableRefusal::Full);
         }
         Ok(())
     }
 
-    /// Takes a run one key after the other, and forgets it all at the first refusal.
-    fn take(&mut self, run: Run) -> Result<Result<(), RunRefusal>, AllocError> {
-        let before = self.list.len();
-        for place in 0..run.length {
-            let held = self.held(run.first.saturating_add(place), run.value);
-            // No `?`: what was taken is forgotten first, and memory that runs out is another error.
-            if let Err(why) = self.against(held) {
-                self.list.truncate(before);
-                return Ok(Err(Refusal::Table(why).at(place)));
+    /// What stands against a run.
+    fn may_take(&self, run: Run) -> Result<(), RunRefusal> {
+        (0..run.length).try_for_each(|place| {
+            let free = self.against(run, place);
+            free.map_err(|why| Refusal::Table(why).at(place))
+        })
+    }
+
+    /// Takes a run, if nothing stands against it.
+    fn take(&mut self, run: Run) -> Result<Answer, AllocError> {
+        let done = self.may_take(run);
+        if done.is_ok() {
+            for place in 0..run.length {
+                let held = self.held(run, place);
+                self.list.push(held)?;
             }
-            self.list.push(held)?;
         }
-        Ok(Ok(()))
+        Ok(Answer::Run(done))
     }
 
     /// What stands against cancelling one key.
@@ -165,10 +183,11 @@ impl Mirror {
         if b > most || b >= self.k {
             return Err(Refusal::Table(TableRefusal::DoesNotFit));
         }
+        let size = self.group(kind, b);
         if self
             .list
             .iter()
-            .any(|e| self.load(*e, kind, b) > kind.limit())
+            .any(|e| load(&self.list, size, e.mixed) > kind.limit())
         {
             return Err(Refusal::Table(TableRefusal::Full));
         }
@@ -180,7 +199,7 @@ impl Mirror {
     /// Any operation.
     pub fn put(&mut self, operation: Operation) -> Result<Answer, AllocError> {
         Ok(match operation {
-            Operation::Take(run) => Answer::Run(self.take(run)?),
+            Operation::Take(run) => self.take(run)?,
             Operation::Cancel(run) => Answer::Run(self.cancel(run)),
             Operation::LookUp(key) => Answer::Value(self.look_up(key)),
             Operation::Entry(i) => {

@@ -4,15 +4,16 @@
 use crate::calls::InUse;
 use crate::mirror::{Mirror, Room, Side};
 use crate::mixed::{added_up, folded};
-use crate::operation::{Operation, VALUES, WIDTH};
+use crate::operation::{Answer, Operation, VALUES, WIDTH};
 use blocks::{PackedTable, PlainTable};
 use dictionary::Addressing;
 use expected::noise::Noise;
 use expected::shown::Shown;
-use permutation::{Affine, Chain, Identity, Permutation, XorShift};
+use permutation::{Affine, Chain, Identity, Permutation, SetUpRefusal, XorShift};
 use std::io;
 use table::shape::Shape;
 use table::table::Table;
+use table::words::all_zero;
 use tally::tally::Tally;
 
 const STEPS: u64 = 600;
@@ -28,15 +29,12 @@ struct Pair<'a, P: Permutation, A: Shown, B: Shown> {
 
 impl<'a, P: Permutation, A: Shown, B: Shown> Pair<'a, P, A, B> {
     /// Puts an operation to whichever table is in use.
-    fn right(&mut self, operation: Operation) -> io::Result<bool> {
-        let Some(shape) = Shape::new(self.mirror.k, self.mirror.v, self.mirror.b) else {
-            return Ok(false);
-        };
+    fn answer(&mut self, shape: Shape, operation: Operation) -> Answer {
         let by = Addressing {
             permutation: self.permutation,
             shape,
         };
-        let answer = match self.mirror.side {
+        match self.mirror.side {
             Side::First => InUse {
                 by,
                 table: &mut *self.first,
@@ -49,8 +47,15 @@ impl<'a, P: Permutation, A: Shown, B: Shown> Pair<'a, P, A, B> {
                 other: &mut *self.first,
             }
             .put(operation),
-        };
-        Ok(answer.is(self.mirror.put(operation)?))
+        }
+    }
+
+    /// Whether the answer to an operation is that of the list.
+    fn right(&mut self, operation: Operation) -> io::Result<bool> {
+        let shape = Shape::new(self.mirror.k, self.mirror.v, self.mirror.b);
+        let got = shape.map(|shape| self.answer(shape, operation));
+        let want = self.mirror.put(operation)?;
+        Ok(got.is_some_and(|answer| answer.is(want)))
     }
 
     /// Whether the table in use has the words of the list, and the other one zeros.
@@ -60,7 +65,7 @@ impl<'a, P: Permutation, A: Shown, B: Shown> Pair<'a, P, A, B> {
             Side::First => (self.first.shown(), self.second.shown()),
             Side::Second => (self.second.shown(), self.first.shown()),
         };
-        Ok(self.mirror.layout().has_words(&entries, used) && other.iter().all(|word| *word == 0))
+        Ok(self.mirror.layout().has_words(&entries, used) && all_zero(other))
     }
 
     /// A long list of operations, from the first table on.
@@ -152,31 +157,38 @@ impl<'a, P: Permutation> Setting<'a, P> {
     }
 }
 
-/// The lists of operations of a permutation, under its name.
-fn mixed<P: Permutation>(
+/// The lists of operations of a permutation, under its name; one wrong case where it is not set up.
+fn mixed<P: Permutation + Drop>(
     rt: &HostRuntime,
     what: &str,
-    permutation: &P,
+    permutation: Result<P, SetUpRefusal>,
     mixed: &[u64],
 ) -> io::Result<()> {
     println!(rt; "{what}")?;
+    let Ok(permutation) = &permutation else {
+        let mut tally = Tally::new();
+        tally.unmade(rt)?;
+        return tally.show(rt, what);
+    };
     Setting { permutation, mixed }.all_pairs(rt)
+}
+
+/// A multiplication and an addition.
+fn affine() -> Result<Affine, SetUpRefusal> {
+    Affine::new(WIDTH, 77, 30)
+}
+
+/// The same, and then an XOR with a shift.
+fn chain() -> Result<Chain<Affine, XorShift>, SetUpRefusal> {
+    Chain::new(affine()?, XorShift::new(WIDTH, 3)?)
 }
 
 /// Runs all of it.
 pub fn run(rt: &HostRuntime) -> io::Result<()> {
-    if let Ok(same) = Identity::new(WIDTH) {
-        mixed(rt, "identity", &same, &added_up(rt.alloc(), 1, 0)?)?;
-    }
-    if let Ok(affine) = Affine::new(WIDTH, 77, 30) {
-        let numbers = added_up(rt.alloc(), 77, 30)?;
-        mixed(rt, "affine", &affine, &numbers)?;
-        if let Ok(shift) = XorShift::new(WIDTH, 3) {
-            let numbers = folded(rt.alloc(), &numbers, 3)?;
-            if let Ok(chain) = Chain::new(affine, shift) {
-                mixed(rt, "affine, then xor-shift", &chain, &numbers)?;
-            }
-        }
-    }
-    Ok(())
+    let numbers = added_up(rt.alloc(), 1, 0)?;
+    mixed(rt, "identity", Identity::new(WIDTH), &numbers)?;
+    let numbers = added_up(rt.alloc(), 77, 30)?;
+    mixed(rt, "affine", affine(), &numbers)?;
+    let numbers = folded(rt.alloc(), &numbers, 3)?;
+    mixed(rt, "affine, then xor-shift", chain(), &numbers)
 }

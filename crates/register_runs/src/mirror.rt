@@ -16,6 +16,7 @@ use table::refusal::TableRefusal;
 /// What the formulas are told of each part of a register.
 pub type Formulas = Parts<Sort, Sort, Mix, Store, Store>;
 
+// The register has a type and an `other` like these, which are not public.
 /// Of an open register: the table in use, which has 2^b slots.
 #[derive(Clone, Copy, PartialEq, Eq, Debug)]
 pub struct Opened {

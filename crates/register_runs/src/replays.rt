@@ -58,19 +58,18 @@ const PLAIN: Formulas = Parts {
 };
 
 /// A list of calls that begins with an open; little is held at first, and then more.
-fn calls_from(rt: &HostRuntime, b: u32, number: u64) -> io::Result<Vec<Call<u64, u64>>> {
+fn calls_from(rt: &HostRuntime, b: u32, number: usize) -> io::Result<Vec<Call<u64, u64>>> {
     let mut mirror = Mirror::new(rt.alloc(), PLAIN);
-    let mut noise = Noise::new(number);
-    let mut calls = Vec::new(rt.alloc());
-    for i in 0..number {
-        let call = match i {
+    let mut noise = Noise::new(number as u64);
+    let mut calls = vec![in rt.alloc(); Call::Open(b); number]?;
+    for (i, call) in calls.iter_mut().enumerate() {
+        *call = match i {
             0 => Call::Open(b),
             _ if i % 90 == 89 => Call::Enlarge,
             _ if i > 300 => some_call(&mut noise, &mirror, Tide::Rising),
             _ => some_call(&mut noise, &mirror, Tide::Falling),
         };
-        let _ = mirror.put(call)?;
-        calls.push(call)?;
+        let _ = mirror.put(*call)?;
     }
     Ok(calls)
 }
@@ -107,7 +106,7 @@ fn check<M: Machine + Drop>(
 }
 
 /// A list of calls on one register, with room for so many answers.
-fn replayed(report: &mut Report<'_>, number: u64, room: usize) -> io::Result<()> {
+fn replayed(report: &mut Report<'_>, number: usize, room: usize) -> io::Result<()> {
     let rt = report.rt;
     let Ok(permutation) = chain(MIX) else {
         return report.unmade();
@@ -149,27 +148,31 @@ fn agreed(
     answers: &[Answer<Booking>],
     others: &[Answer<Booking>],
 ) -> u64 {
-    let mut compared = 0u64;
-    for (i, (call, (one, other))) in calls.iter().zip(answers.iter().zip(others)).enumerate() {
-        let one = numbered(*one);
-        let other = numbered(*other);
-        let unlike_open = i == 0 && one != other;
-        if unlike_open || is_full(*call, one) || is_full(*call, other) {
-            return compared;
-        }
-        if is_compared(*call) {
-            report.part.count(is(one, other));
-            compared = compared.saturating_add(1);
-        }
+    let before = report.part.cases;
+    let replies = answers
+        .iter()
+        .zip(others)
+        .map(|(one, other)| (numbered(*one), numbered(*other)));
+    let compared = calls
+        .iter()
+        .zip(replies)
+        .enumerate()
+        .take_while(|(i, (call, (one, other)))| {
+            let alike = *i > 0 || *one == *other;
+            alike && !is_full(**call, *one) && !is_full(**call, *other)
+        })
+        .filter(|(_, (call, _))| is_compared(**call));
+    for (_, (_, (one, other))) in compared {
+        report.part.count(is(one, other));
     }
-    compared
+    report.part.cases.saturating_sub(before)
 }
 
 /// One list of calls on two registers, with room for so many answers of each.
 fn replayed_on_both(
     report: &mut Report<'_>,
     b: u32,
-    number: u64,
+    number: usize,
     rooms: (usize, usize),
 ) -> io::Result<()> {
     let rt = report.rt;
