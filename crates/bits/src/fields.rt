@@ -61,8 +61,8 @@ fn raise(area: &mut [u64], from: u128, end: u128, by: Width)
     requires inside { from < end → end + by.bits ≤ 64 * length area.old }
     ensures { number area.new ≡ splice (number area.old) (from + by.bits) (end - from) (bits (number area.old) from (end - from)) }
 {
-    for part in (0..(end - from).div_ceil(WORD as u128)).rev() {
-        let at = from + part * WORD as u128;
+    for part in (0..(end - from).div_ceil(WORD as u128) as usize).rev() {
+        let at = from + part as u128 * WORD as u128;
         let size = Width::up_to(end - at);
         let moved = read_bits(area, at, size);
         write_bits(area, at + by.bits(), size, moved);
@@ -75,8 +75,8 @@ fn lower(area: &mut [u64], from: u128, end: u128, by: Width)
     requires inside { from < end → end + by.bits ≤ 64 * length area.old }
     ensures { number area.new ≡ splice (number area.old) from (end - from) (bits (number area.old) (from + by.bits) (end - from)) }
 {
-    for part in 0..(end - from).div_ceil(WORD as u128) {
-        let at = from + part * WORD as u128;
+    for part in 0..(end - from).div_ceil(WORD as u128) as usize {
+        let at = from + part as u128 * WORD as u128;
         let size = Width::up_to(end - at);
         let moved = read_bits(area, at + by.bits(), size);
         write_bits(area, at, size, moved);

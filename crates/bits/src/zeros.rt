@@ -18,5 +18,12 @@ pub fn is_zero_from(area: &[u64], from: u64) -> bool
 fn are_zero_from(area: &[u64], first: usize) -> bool
     ensures { result ≡ list_all (λ word. word == 0) (drop first area.now) }
 {
-    area.iter().skip(first).all(|word| *word == 0)
+    are_zero(&area[first.min(area.len())..])
+}
+
+/// Whether all words are zero.
+fn are_zero(words: &[u64]) -> bool
+    ensures { result ≡ list_all (λ word. word == 0) words.now }
+{
+    words.iter().all(|word| *word == 0)
 }
