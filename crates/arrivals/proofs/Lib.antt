@@ -1,3 +1,4 @@
 mod Digits
+mod Fronts
 mod Nights
 mod Words

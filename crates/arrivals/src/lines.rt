@@ -1,6 +1,7 @@
 //! Reading a line: its words, the numbers that they write, and the stay that four numbers make.
-ghost use Rattle.std.specs.Prelude.{◌≡◌};
-ghost use Rattle.arrivals.specs.Lines.{is_blank as blank_byte, nth_word, digit_after, decimal, field_of, stay_of};
+ghost use Rattle.std.specs.Prelude.{◌≡◌, ◌≤◌, length};
+ghost use Rattle.std.specs.List.{position_or_len};
+ghost use Rattle.arrivals.specs.Lines.{is_blank as blank_byte, skipped, word, after, nth_word, digit_after, decimal, field_of, stay_of};
 
 use crate::stay::{Field, LineFault, Stay};
 
@@ -11,14 +12,49 @@ fn is_blank(byte: u8) -> bool
     matches!(byte, b' ' | b'\t' | b'\r')
 }
 
+/// A text without its blank front.
+fn skipped(text: &[u8]) -> &[u8]
+    ensures value { result.now ≡ skipped text.now }
+{
+    let blanks = text.iter().position(|byte| !is_blank(*byte));
+    &text[blanks.unwrap_or(text.len())..]
+}
+
+/// How many bytes of a text stand before its first blank.
+fn word_len(text: &[u8]) -> usize
+    ensures value { result ≡ position_or_len blank_byte text.now }
+    ensures bound { result ≤ length text.now }
+{
+    let size = text.iter().position(|byte| is_blank(*byte));
+    size.unwrap_or(text.len())
+}
+
+/// The first word of a text.
+fn first_word(text: &[u8]) -> &[u8]
+    ensures value { result.now ≡ word (skipped text.now) }
+{
+    let rest = skipped(text);
+    &rest[..word_len(rest)]
+}
+
+/// What follows the first word of a text.
+fn past_word(text: &[u8]) -> &[u8]
+    ensures value { result.now ≡ after (skipped text.now) }
+{
+    let rest = skipped(text);
+    &rest[word_len(rest)..]
+}
+
+// The words are passed over one after the other: `split` with a filter for the empty parts between blanks takes more than twice the time.
 /// The word at a place of a line, the first being 0; an empty one where there are too few.
 fn word_at(line: &[u8], place: u64) -> &[u8]
     ensures value { result.now ≡ nth_word line.now place }
 {
-    line.split(|byte| is_blank(*byte))
-        .filter(|word| !word.is_empty())
-        .nth(place as usize)
-        .unwrap_or_default()
+    let mut rest = line;
+    for i in 0..place {
+        rest = past_word(rest);
+    }
+    first_word(rest)
 }
 
 /// The number that the digits of `n` and one more write, if it is a digit and the number is below 2^64.

@@ -1,16 +1,20 @@
-use Rattle.std.proofs.Common.{sym, ◌∙◌, rules, tests}
-use Rattle.std.proofs.lemmas.Iterator.Consumers.{YieldsList-at, YieldsList-from_filter, nth_from_yields_List}
-use Rattle.std.proofs.lemmas.Iterator.Splits.{YieldsList-from_slice_split}
-use Rattle.arrivals.specs.Lines.{is_blank}
-use Rattle.arrivals.proofs.Words.{has_byte, nth_is, text_or_empty}
+use Rattle.std.proofs.Common.{◌≡◌, ℕ, suc, ◌+◌, ◌-◌, ◌<◌, ◌≤◌, List, sym, ◌∙◌, arith}
+use Rattle.arrivals.specs.Lines.{skipped, word, after, nth_word}
 use Rattle.arrivals.proofs.lines.word_at.Goals as goal
 
+-- a word more is left behind
+word_more : (rest next : List ℕ) (place i : ℕ) → i < place → next ≡ after (skipped rest) → nth_word rest (place - i) ≡ nth_word next (place - (i + 1))
+unfolding nth_word
+word_more rest next place i h e =
+    let s : place - i ≡ suc (place - (i + 1)) = omega arith in rw (s, nth_word, e)
+
+-- the place is reached
+word_here : (rest : List ℕ) (place i : ℕ) → place ≤ i → nth_word rest (place - i) ≡ word (skipped rest)
+unfolding nth_word
+word_here rest place i h = let s : place - i ≡ 0 = omega arith in rw (s, nth_word)
+
+pub loop-i-preserved : goal.loop-i-preserved
+loop-i-preserved c = c.loop-i.invariant ∙ word_more _ _ _ _ c.loop-i-test.true c.past_word-rest.ensures.value
+
 pub returns : goal.returns
-returns c = record {
-  value = text_or_empty c.nth.result _ c.unwrap_or_default.result c.unwrap_or_default.ensures
-      (nth_from_yields_List c.nth.result _ c.args.place c.nth.ensures.ran
-      (YieldsList-from_filter _ has_byte
-      (YieldsList-at c.filter.ensures.source (YieldsList-from_slice_split _ is_blank c.args.line.now c.split.ensures.rest c.split.ensures.done c.split.ensures.closure (λ x b q k. search (rules, tests))))
-      c.filter.ensures.closure (λ x b q k. search (rules, tests))))
-      ∙ sym (nth_is c.args.place c.args.line.now);
-}
+returns c = record { value = c.first_word.ensures.value ∙ sym (word_here _ _ _ c.loop-i-test.false) ∙ sym c.loop-i.invariant }
