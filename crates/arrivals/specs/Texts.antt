@@ -3,6 +3,7 @@
 -- field_name         what a number of a stay is called
 -- line_fault_text    what is wrong with a line that cannot be read
 -- night_fault_text   why the nights of a stay are not all listed
+-- no_booking_text    that a stay's booking does not exist
 -- stay_text          a stay
 use Rattle.std.specs.Prelude.{ℕ, List, ◌++◌, codes, cond, ◌==◌}
 use Rattle.std.specs.Fmt.{decimal}
@@ -12,6 +13,7 @@ use Rattle.arrivals.specs.declared.stay.Field.TheVariants.{Pitch, First, Nights,
 use Rattle.arrivals.specs.declared.stay.LineFault.{LineFault}
 use Rattle.arrivals.specs.declared.stay.LineFault.TheVariants.{Missing, NotANumber, TooMany}
 use Rattle.arrivals.specs.declared.findings.NightFault.{NightFault}
+use Rattle.arrivals.specs.declared.findings.NoBooking.{NoBooking}
 use Rattle.arrivals.specs.declared.findings.NightFault.TheVariants.{Length, NoPitch, NoNight}
 
 abbrev pub field_name : Field → List ℕ
@@ -29,6 +31,9 @@ abbrev pub night_fault_text : NightFault → List ℕ
 night_fault_text Length = codes "a stay has 1 to 64 nights"
 night_fault_text (NoPitch pitch) = codes "there is no pitch " ++ (decimal pitch ++ codes ": pitches are 0 to 999")
 night_fault_text (NoNight night) = codes "there is no night " ++ (decimal night ++ codes ": nights are 0 to 731")
+
+abbrev pub no_booking_text : NoBooking → List ℕ
+no_booking_text fault = codes "there is no booking " ++ (decimal fault.booking ++ codes ": bookings are 1 to 9999999")
 
 abbrev pub night_word : ℕ → List ℕ
 night_word n = cond (n == 1) (codes "night") (codes "nights")

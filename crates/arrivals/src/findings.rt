@@ -1,6 +1,6 @@
 //! What the check of an arrival list finds.
 ghost use Rattle.std.specs.Prelude.{Some};
-ghost use Rattle.arrivals.specs.Texts.{night_fault_text};
+ghost use Rattle.arrivals.specs.Texts.{night_fault_text, no_booking_text};
 
 use std::fmt;
 
@@ -13,6 +13,12 @@ pub enum NightFault {
     NoPitch(u64),
     /// The first night of the stay that does not exist.
     NoNight(u64),
+}
+
+/// The booking of a stay, which does not exist.
+#[derive(Clone, Copy, PartialEq, Eq, Debug)]
+pub struct NoBooking {
+    pub booking: u64,
 }
 
 /// What is found of one stay: how many of its nights, from the first on, exist; why the others are not listed; and whether its booking exists.
@@ -46,5 +52,17 @@ impl fmt::Display for NightFault {
                 write!(f, "there is no night {night}: nights are 0 to 731")
             }
         }
+    }
+}
+
+impl fmt::Display for NoBooking {
+    ghost output = { λ fault. Some (no_booking_text fault) };
+
+    fn fmt<W: fmt::Write>(&self, f: &mut fmt::Formatter<W>) -> fmt::Result {
+        write!(
+            f,
+            "there is no booking {}: bookings are 1 to 9999999",
+            self.booking
+        )
     }
 }

@@ -1,6 +1,6 @@
 //! What the program prints of each line of an arrival list, and of each night that it enters.
 use crate::show::Said;
-use arrivals::findings::{Findings, Totals};
+use arrivals::findings::{Findings, NoBooking, Totals};
 use arrivals::lines::read_stay;
 use arrivals::mix::mix;
 use arrivals::stay::Stay;
@@ -123,10 +123,10 @@ fn report_faults(rt: &impl Print, stay: Stay, findings: Findings) -> io::Result<
         println!(rt; "  fault: {fault}")?;
     }
     if !findings.booked {
-        println!(rt;
-            "  fault: there is no booking {}: bookings are 1 to 9999999",
-            stay.booking
-        )?;
+        let fault = NoBooking {
+            booking: stay.booking,
+        };
+        println!(rt; "  fault: {fault}")?;
     }
     Ok(())
 }
