@@ -34,7 +34,9 @@ fn outcome(answer: Answer<Booking>) -> Result<u64, RunRefusal>
 pub fn outcome_at(answers: &[Answer<Booking>], place: u64) -> Result<u64, RunRefusal>
     ensures value { result ≡ outcome_at answers.now place }
 {
-    let mut takes = answers.iter().skip(1);
-    let answer = takes.nth(place as usize).ok_or(Refusal::Unreached.at(0))?;
+    let [_, takes @ ..] = answers else {
+        return Err(Refusal::Unreached.at(0));
+    };
+    let answer = takes.get(place as usize).ok_or(Refusal::Unreached.at(0))?;
     outcome(*answer)
 }
