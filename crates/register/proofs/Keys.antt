@@ -6,11 +6,11 @@ use Rattle.model.specs.Step.{no_key, no_key_next}
 
 module _ {K V : Type 0} (f : Fixed K V) (m n : ℕ) where
   -- nothing was found at the first i places
-  abbrev Keyed : ℕ → Type 0
+  abbrev pub Keyed : ℕ → Type 0
   Keyed i = no_key f m 0 n ≡ no_key f (m + i) i (n - i)
 
   -- before the first turn
-  keyed_none : Keyed 0
+  pub keyed_none : Keyed 0
   keyed_none = let z : n - 0 ≡ n = omega arith in let y : m + 0 ≡ m = omega arith in rw (z, y)
 
   module _ (i : ℕ) (within : i < n) (before : Keyed i) where
@@ -19,15 +19,15 @@ module _ {K V : Type 0} (f : Fixed K V) (m n : ℕ) where
     opens = let e : n - i ≡ suc (n - (i + 1)) = omega arith in ap (no_key f (m + i) i) e
 
     -- there is no key at place i
-    keyed_stop : f.keys.item (m + i) ≡ None → Some i ≡ no_key f m 0 n
+    pub keyed_stop : f.keys.item (m + i) ≡ None → Some i ≡ no_key f m 0 n
     keyed_stop none = sym (before ∙ opens ∙ rw none)
 
     -- there is one
-    keyed_more : (key : K) → f.keys.item (m + i) ≡ Some key → Keyed (i + 1)
+    pub keyed_more : (key : K) → f.keys.item (m + i) ≡ Some key → Keyed (i + 1)
     keyed_more key some = let one : i + 1 ≡ suc i = omega arith in let next : m + (i + 1) ≡ suc (m + i) = omega arith in before ∙ opens ∙ rw (some, next, one)
 
   -- after the last turn
-  keyed_all : (i : ℕ) → i ≡ n → Keyed i → None ≡ no_key f m 0 n
+  pub keyed_all : (i : ℕ) → i ≡ n → Keyed i → None ≡ no_key f m 0 n
   keyed_all i e before = let z : n - n ≡ 0 = omega arith in sym (subst (λ k. Keyed k) e before ∙ rw z)
 
   -- keys at the first i places

@@ -57,6 +57,12 @@ impl<K: Coding, V: Coding, P: Permutation, A: Table, B: Table> Register<K, V, P,
         requires { (m < 2 ^ 32) × (n ≤ 64) }
         ensures { result ≡ no_key (fixed K.Coding V.Coding P.Permutation A.Table B.Table self.now) m 0 n }
     {
-        (0..n).find(|i| self.keys.item(m + *i).is_none())
+        // A `for`: by `find` over the range a run that is refused takes more than half as long again.
+        for i in 0..n {
+            if let None = self.keys.item(m + i) {
+                return Some(i);
+            }
+        }
+        None
     }
 }
