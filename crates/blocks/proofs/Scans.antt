@@ -1,5 +1,6 @@
 -- The blocks of a table's words, one by one, and the words past them, in any lawful layout.
-use Rattle.std.proofs.Common.{◌≡◌, ℕ, ◌+◌, ◌-◌, ◌*◌, ◌<◌, ◌≤◌, true, List, length, get_or, take, drop, Some, None, Err, Option, inl, refl, sym, ap, ◌∙◌, ap₂, subst, arith}
+use Rattle.std.proofs.Common.{◌≡◌, ℕ, ◌+◌, ◌-◌, ◌*◌, ◌<◌, ◌≤◌, true, List, length, get_or, take, drop, Some, None, Err, Option, inl, refl, sym, ap, ◌∙◌, ap₂, subst, ⊎_elim, arith}
+use Rattle.std.proofs.Math.Nat.{eq-or-lt_of_le}
 use Rattle.std.specs.List.{range_with_len, AllWithin, HoldsAt}
 use Rattle.std.specs.Option.{MatchOption}
 use Rattle.std.proofs.lemmas.List.{take_rest}
@@ -28,6 +29,22 @@ module _ (L : Layout) (law : Lawful L) (ws : List ℕ) (k v b : ℕ) (fit : L.fi
   block_at g =
       let e : (g * w + w) - g * w ≡ w = omega arith in
       ap (λ t. take t (drop (g * w) ws)) e ∙ ap (λ t. take t (drop (g * t) ws)) wide
+
+  -- one block more is given
+  pub given_next : (g : ℕ) → ((i : ℕ) → i < g → Given L k v b (part (L.width k v b) i ws)) → Given L k v b (take ((g * w + w) - g * w) (drop (g * w) ws))
+      → (i : ℕ) → i < g + 1 → Given L k v b (part (L.width k v b) i ws)
+  given_next g before here i h =
+      let le : i ≤ g = omega arith in
+      ⊎_elim (λ e. subst (λ j. Given L k v b (part (L.width k v b) j ws)) (sym e) (subst (Given L k v b) (block_at g) here)) (λ less. before i less) (eq-or-lt_of_le le)
+
+  -- the first that is wrong
+  pub wrong_first : (g : ℕ) → g < n → ((i : ℕ) → i < g → Given L k v b (part (L.width k v b) i ws)) → (Given L k v b (take ((g * w + w) - g * w) (drop (g * w) ws)) → ⊥)
+      → Answer L law ws k v b (Err (WrongBlock g))
+  wrong_first g l before not = answered L law ws k v b (Err (WrongBlock g)) (record {
+    fit = fit;
+    before = before;
+    here = inl (omega (arith, ns), λ given. not (subst (Given L k v b) (sym (block_at g)) given));
+  })
 
   -- as the search has them, the blocks before the n-th
   each_given : (m : ℕ) → m ≤ n → AllWithin (λ x. Given L k v b (take ((x * w + w) - x * w) (drop (x * w) ws))) (range_with_len 0 n) 0 m

@@ -23,12 +23,11 @@ impl<L: Blocks> BlockTable<L> {
     {
         let blocks = L::count(shape);
         let width = L::width(shape);
-        let wrong = (0..blocks).find(|g| !L::is_given(
-            &words[*g * width..*g * width + width],
-            shape,
-        ));
-        if let Some(g) = wrong {
-            return Err(CheckRefusal::WrongBlock(g as u64));
+        // A `for`: what is proved then refuses another order of the blocks, and with `find` only the type of the iterator does.
+        for g in 0..blocks {
+            if !L::is_given(&words[g * width..g * width + width], shape) {
+                return Err(CheckRefusal::WrongBlock(g as u64));
+            }
         }
         if !all_zero(&words[blocks * width..]) {
             return Err(CheckRefusal::WrongBlock(blocks as u64));
