@@ -1,5 +1,5 @@
 -- A run cancelled key by key.
-use Rattle.std.proofs.Common.{◌≡◌, ℕ, true, false, eqb, [], ◌∷◌, None, refl, ap, subst, ⊎_elim, arith}
+use Rattle.std.proofs.Common.{◌≡◌, ℕ, suc, Bool, true, false, cond, not, eqb, [], ◌∷◌, None, refl, ap, subst, ⊎_elim, arith}
 use Rattle.std.proofs.lemmas.Bool.{cases_eq, eq-eqb, ne_eqb}
 use Rattle.std.proofs.lemmas.Bool.Decides.{nat_tests}
 use Rattle.table.specs.Meaning.{value_in, without}
@@ -32,6 +32,17 @@ without_one (e ∷ l) m a =
       where
         single : (x m : ℕ) → (x ≡ m → ⊥) → within_run m 1 x ≡ false
         single x m off = grind (arith, nat_tests)
+
+-- the first key of a run, then the others
+pub without_more : (l : Entries) (m n : ℕ) → without_run m (suc n) l ≡ without_run (suc m) n (without_run m 1 l)
+without_more [] m n = refl
+without_more (e ∷ l) m n = by (within_run m 1 e.0) refl (within_run (suc m) n e.0) refl (without_more l m n)
+  where
+    by : (t : Bool) → within_run m 1 e.0 ≡ t → (u : Bool) → within_run (suc m) n e.0 ≡ u → without_run m (suc n) l ≡ without_run (suc m) n (without_run m 1 l)
+        → without_run m (suc n) (e ∷ l) ≡ without_run (suc m) n (cond (not t) (e ∷ without_run m 1 l) (without_run m 1 l))
+    by true p u q ih = let w : within_run m (suc n) e.0 ≡ true = grind (arith, nat_tests) in rw w ih
+    by false p true q ih = let w : within_run m (suc n) e.0 ≡ true = grind (arith, nat_tests) in rw (w, q) ih
+    by false p false q ih = let w : within_run m (suc n) e.0 ≡ false = grind (arith, nat_tests) in rw (w, q) (ap (λ r. e ∷ r) ih)
 
 -- no run at all
 pub without_none : (l : Entries) (m : ℕ) → without_run m 0 l ≡ l

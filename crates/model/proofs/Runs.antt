@@ -1,7 +1,7 @@
 -- What a run taken or cancelled does to what a list says of a key, and to its keys being apart.
 use Rattle.std.proofs.Common.{◌≡◌, ℕ, zero, suc, ◌+◌, ◌<◌, ◌≤◌, Bool, true, false, cond, not, ◌||◌, eqb, [], ◌∷◌, ◌++◌, Some, None, filter, Option, sym, refl, ap, ◌∙◌, subst, ⊎_elim, arith}
 use Rattle.std.proofs.lemmas.List.{append_assoc, append-nil}
-use Rattle.std.proofs.lemmas.Bool.{cases_Bool, cases_eq, eq-eqb, eqb-true, ne_eqb, or_cases}
+use Rattle.std.proofs.lemmas.Bool.{cases_Bool, cases_eq, eq-eqb, eqb-true, ne_eqb, or_cases, or_parts}
 use Rattle.std.proofs.lemmas.Bool.Decides.{nat_tests}
 use Rattle.std.specs.List.{AllByRecursion as All}
 use Rattle.table.specs.Meaning.{value_in}
@@ -205,3 +205,15 @@ held_cancelled l m w i (suc n) x h t =
 pub run_snoc : (m w n : ℕ) → run_of m w (suc n) ≡ run_of m w n ++ ((m + n, w) ∷ [])
 run_snoc m w zero = let z : m + 0 ≡ m = omega arith in rw z
 run_snoc m w (suc n) = let e : m + suc n ≡ suc m + n = omega arith in ap (λ r. (m, w) ∷ r) (run_snoc (suc m) w n ∙ rw e)
+
+-- a run says nothing of the keys outside of it
+pub value_beyond : (l : Entries) (m w n x : ℕ) → within_run m n x ≡ false → value_in (l ++ run_of m w n) x ≡ value_in l x
+value_beyond [] m w n x h = none m n h
+  where
+    none : (m n : ℕ) → within_run m n x ≡ false → value_in (run_of m w n) x ≡ None
+    none m zero h = refl
+    none m (suc n) h =
+        let both = or_parts (eqb m x) (within_run (suc m) n x) (sym (run_more m n x) ∙ h) in
+        let off : eqb m x ≡ false = both.0 in
+        rw off (none (suc m) n both.1)
+value_beyond (e ∷ l) m w n x h = let ih = value_beyond l m w n x h in rw ih

@@ -132,6 +132,10 @@ module _ (slot : ℕ → ℕ) where
       (λ off. inr (value_kept (λ y. eqb (slot y) n) l x ∙ rw off))
       (cases_Bool (eqb (slot x) n)))
 
+  -- a key whose slot is among the n
+  pub value_walk : (n : ℕ) (l : Entries) (x : ℕ) → slot x < n → value_in (walk slot n l) x ≡ value_in l x
+  value_walk n l x h = let u : ltb (slot x) n ≡ true = lt-ltb (slot x) n h in value_part n l x ∙ rw u
+
   -- and one that no list of such keys has
   pub value_within : (n : ℕ) (l : Entries) (x : ℕ) → All (λ e. slot e.0 < n) l → value_in (walk slot n l) x ≡ value_in l x
   value_within n l x h =
