@@ -1,4 +1,5 @@
 pub mod Blocks
+pub mod Fields
 pub mod Held
 pub mod Kinds
 pub mod Noise

@@ -1,4 +1,4 @@
-ghost use Rattle.std.specs.Prelude.{◌≡◌, Some};
+ghost use Rattle.std.specs.Prelude.{◌≡◌, ◌%◌, ◌^◌, ◌<◌, ◌≤◌, Some};
 ghost use Rattle.expected.specs.Blocks.{entry_word, plain_word};
 ghost use Rattle.expected.specs.Kinds.{block, word};
 
@@ -27,8 +27,23 @@ impl Entry {
     pub fn word(&self) -> u64
         ensures value { result ≡ entry_word (Some self.now) }
     {
-        self.quotient % (1 << 32) + self.value % (1 << 32) * (1 << 32)
+        lowest(self.quotient, 32) + lowest(self.value, 32) * (1 << 32)
     }
+}
+
+// The lowest bits of a number, so many of them, one after the other.
+fn lowest(n: u64, width: u32) -> u64
+    requires { width ≤ 32 }
+    ensures value { result ≡ n % 2 ^ width }
+    ensures bound { result < 2 ^ 32 }
+{
+    let mut low = 0u64;
+    for i in 0..width {
+        if (n >> i) % 2 == 1 {
+            low += 1 << i;
+        }
+    }
+    low
 }
 
 // The word at a place of a plain block: the number of the slot's entries, then a word to each.

@@ -2,6 +2,7 @@
 //! numbers that look random, arithmetic that cannot fail, and the words of both kinds of table, a bit at a time.
 #![tactic(auto)]
 
+pub mod clear;
 pub mod held;
 pub mod kind;
 pub mod layout;

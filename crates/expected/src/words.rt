@@ -1,8 +1,9 @@
-ghost use Rattle.std.specs.Prelude.{◌≡◌, ◌/◌, ◌≤◌, ◌==◌, nat_lt, length, take_while};
+ghost use Rattle.std.specs.Prelude.{◌≡◌, ℕ, ◌/◌, ◌<◌, ◌≤◌, ◌==◌, nat_lt, length, take_while};
 ghost use Rattle.std.specs.List.{list_all, enumerate_from};
 ghost use Rattle.expected.specs.Kinds.{group, block, word};
 ghost use Rattle.expected.specs.Words.{part, word_at};
 
+use crate::clear::is_clear;
 use crate::layout::{Entry, Layout};
 use crate::numbers::{rest, times};
 
@@ -28,12 +29,20 @@ fn own(entries: &[Entry], size: u64, g: u64) -> usize
         .count()
 }
 
+// The entries of a group, and what comes after them, among entries in order of their slots.
+fn cut(entries: &[Entry], size: u64, g: u64) -> (&[Entry], &[Entry])
+    ensures own { result.0.now ≡ part entries.now size g }
+    ensures after { (h : ℕ) → g < h → part result.1.now size h ≡ part entries.now size h }
+{
+    let others = &entries[lower(entries, size, g)..];
+    others.split_at(own(others, size, g))
+}
+
 /// The entries of a group, among entries in order of their slots.
 pub fn part(entries: &[Entry], size: u64, g: u64) -> &[Entry]
     ensures value { result.now ≡ part entries.now size g }
 {
-    let others = &entries[lower(entries, size, g)..];
-    &others[..own(others, size, g)]
+    cut(entries, size, g).0
 }
 
 impl Layout {
@@ -46,13 +55,31 @@ impl Layout {
         self.word(group, rest(index as u64, block))
     }
 
+    // Whether words are those of a group's block, of the group's entries.
+    fn has_block(self, group: &[Entry], words: &[u64]) -> bool
+        ensures { result ≡ list_all (λ p. word self.kind self.quotient self.value group.now p.0 == p.1) (enumerate_from 0 words.now) }
+    {
+        if group.is_empty() {
+            return is_clear(words);
+        }
+        words
+            .iter()
+            .enumerate()
+            .all(|(place, word)| self.word(group, place as u64) == *word)
+    }
+
     /// Whether words are those of entries in order of their slots.
     pub fn has_words(self, entries: &[Entry], words: &[u64]) -> bool
         ensures value { result ≡ list_all (λ p. word_at (word self.kind self.quotient self.value) (group self.kind) (block self.kind self.quotient self.value) entries.now p.0 == p.1) (enumerate_from 0 words.now) }
     {
-        words
-            .iter()
-            .enumerate()
-            .all(|(i, word)| self.word_at(entries, i) == *word)
+        let mut others = entries;
+        for (g, words) in words.chunks(self.block() as usize).enumerate() {
+            let (group, after) = cut(others, self.kind.group(), g as u64);
+            if !self.has_block(group, words) {
+                return false;
+            }
+            others = after;
+        }
+        true
     }
 }
