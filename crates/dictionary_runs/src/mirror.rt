@@ -112,7 +112,10 @@ impl Mirror {
     fn may_take(&self, run: Run) -> Result<(), RunRefusal> {
         (0..run.length).try_for_each(|place| {
             let free = self.against(run, place);
-            free.map_err(|why| Refusal::Table(why).at(place))
+            free.map_err(|why| RunRefusal {
+                place,
+                why: Refusal::Table(why),
+            })
         })
     }
 
@@ -133,7 +136,7 @@ impl Mirror {
         if value >= power(self.v) {
             return Err(Refusal::Table(TableRefusal::OutOfRange));
         }
-        if self.look_up(key)? != value {
+        if self.look_up(key).map_err(Refusal::Table)? != value {
             return Err(Refusal::OtherValue);
         }
         Ok(())
@@ -143,7 +146,7 @@ impl Mirror {
     fn cancel(&mut self, run: Run) -> Result<(), RunRefusal> {
         (0..run.length).try_for_each(|place| {
             let found = self.against_cancel(run.first.saturating_add(place), run.value);
-            found.map_err(|why| why.at(place))
+            found.map_err(|why| RunRefusal { place, why })
         })?;
         self.list
             .retain(|e| e.key < run.first || e.key - run.first >= run.length);
@@ -161,10 +164,9 @@ impl Mirror {
     /// The entries of the table in use, slots upwards.
     pub fn entries(&self, heap: Global) -> Result<Vec<Entry>, AllocError> {
         let quotients = self.quotients(self.b);
-        self.walk()?
-            .iter()
-            .map(|e| e.entry(quotients))
-            .collect(heap)
+        let mut entries: Vec<Entry> = self.list.iter().map(|e| e.entry(quotients)).collect(heap)?;
+        entries.sort_by_key(|e| e.slot)?;
+        Ok(entries)
     }
 
     /// How the table in use stands in its words.

@@ -7,13 +7,13 @@ use crate::mixed::{added_up, folded};
 use crate::operation::{Answer, Operation, VALUES, WIDTH};
 use blocks::{PackedTable, PlainTable};
 use dictionary::Addressing;
+use expected::clear::is_clear;
 use expected::noise::Noise;
 use expected::shown::Shown;
 use permutation::{Affine, Chain, Identity, Permutation, SetUpRefusal, XorShift};
 use std::io;
 use table::shape::Shape;
 use table::table::Table;
-use table::words::all_zero;
 use tally::tally::Tally;
 
 const STEPS: u64 = 600;
@@ -65,7 +65,7 @@ impl<'a, P: Permutation, A: Shown, B: Shown> Pair<'a, P, A, B> {
             Side::First => (self.first.shown(), self.second.shown()),
             Side::Second => (self.second.shown(), self.first.shown()),
         };
-        Ok(self.mirror.layout().has_words(&entries, used) && all_zero(other))
+        Ok(self.mirror.layout().has_words(&entries, used) && is_clear(other))
     }
 
     /// A long list of operations, from the first table on.

@@ -2,11 +2,11 @@
 use crate::machine::Machine;
 use crate::mirror::{Formulas, Mirror};
 use crate::report::{Report, is};
+use expected::clear::is_clear;
 use model::answer::Answer;
 use model::call::Call;
 use register::{Parts, Side};
 use std::io;
-use table::words::all_zero;
 
 /// A register, and the list.
 #[derive(Drop)]
@@ -31,7 +31,7 @@ impl<M: Machine + Drop> Pair<M> {
         }
         let used = self.mirror.opened.filter(|opened| opened.side == side);
         let Some(opened) = used else {
-            return Ok(all_zero(words));
+            return Ok(is_clear(words));
         };
         let Parts { keys, values, .. } = self.mirror.parts;
         let entries = self.mirror.entries(report.rt.alloc())?;

@@ -127,16 +127,22 @@ impl Mirror {
     /// What stands against a run before its keys are looked for; else the table in use.
     fn read(&self, run: Run) -> Result<Opened, RunRefusal> {
         if run.length == 0 || run.length > 64 {
-            return Err(Refusal::RunLength.at(0));
+            return Err(RunRefusal {
+                place: 0,
+                why: Refusal::RunLength,
+            });
         }
         (0..run.length).try_for_each(|place| {
             let known = self.known(run.first.saturating_add(place));
-            known.map_err(|why| why.at(place))
+            known.map_err(|why| RunRefusal { place, why })
         })?;
         if !self.parts.values.has(run.value) {
-            return Err(Refusal::UnknownValue.at(0));
+            return Err(RunRefusal {
+                place: 0,
+                why: Refusal::UnknownValue,
+            });
         }
-        self.in_use().map_err(|why| why.at(0))
+        self.in_use().map_err(|why| RunRefusal { place: 0, why })
     }
 
     /// What is held of the key at a place of a run, once it is taken.
@@ -171,7 +177,7 @@ impl Mirror {
         let opened = self.read(run)?;
         (0..run.length).try_for_each(|place| {
             let free = self.against(run, place, opened);
-            free.map_err(|why| why.at(place))
+            free.map_err(|why| RunRefusal { place, why })
         })
     }
 
@@ -189,7 +195,7 @@ impl Mirror {
 
     /// What stands against cancelling one key.
     fn against_cancel(&self, key: u64, w: u64) -> Result<(), Refusal> {
-        if value(&self.list, key).ok_or(TableRefusal::Absent)? != w {
+        if value(&self.list, key).ok_or(Refusal::Table(TableRefusal::Absent))? != w {
             return Err(Refusal::OtherValue);
         }
         Ok(())
@@ -200,7 +206,7 @@ impl Mirror {
         self.read(run)?;
         (0..run.length).try_for_each(|place| {
             let found = self.against_cancel(run.first.saturating_add(place), run.value);
-            found.map_err(|why| why.at(place))
+            found.map_err(|why| RunRefusal { place, why })
         })?;
         self.list
             .retain(|e| e.key < run.first || e.key - run.first >= run.length);
@@ -210,7 +216,8 @@ impl Mirror {
     fn find(&self, m: u64) -> Result<Answer<u64>, Refusal> {
         self.known(m)?;
         self.in_use()?;
-        Ok(Answer::Value(value(&self.list, m).ok_or(TableRefusal::Absent)?))
+        let found = value(&self.list, m).ok_or(Refusal::Table(TableRefusal::Absent))?;
+        Ok(Answer::Value(found))
     }
 
     /// What is held, slots upwards.
@@ -224,10 +231,9 @@ impl Mirror {
     /// The entries of the table in use, slots upwards.
     pub fn entries(&self, heap: Global) -> Result<Vec<Entry>, AllocError> {
         let quotients = self.quotients(self.bits());
-        self.walk()?
-            .iter()
-            .map(|e| e.entry(quotients))
-            .collect(heap)
+        let mut entries: Vec<Entry> = self.list.iter().map(|e| e.entry(quotients)).collect(heap)?;
+        entries.sort_by_key(|e| e.slot)?;
+        Ok(entries)
     }
 
     /// The entry at a place of the walk.

@@ -2,12 +2,12 @@
 use crate::refused::is;
 use crate::tried::Tried;
 use crate::widths::Widths;
+use expected::clear::is_clear;
 use expected::layout::Entry;
 use std::io;
 use std::marker::PhantomData;
 use table::check_refusal::CheckRefusal;
 use table::refusal::TableRefusal;
-use table::words::all_zero;
 use tally::tally::Tally;
 
 /// The sound words of a table of some widths, and the cases that were tried of them.
@@ -72,7 +72,7 @@ impl<T: Tried> Damage<T> {
         let table = T::kept(words, self.widths);
         let unformed = is(table.size(0), Err(TableRefusal::Unformed));
         self.tally
-            .count(named && unformed && all_zero(table.shown()));
+            .count(named && unformed && is_clear(table.shown()));
         Ok(())
     }
 
@@ -89,7 +89,7 @@ impl<T: Tried> Damage<T> {
         let table = T::kept(words, widths);
         let fits = table.fits(widths.k, widths.v, widths.b);
         self.tally
-            .count(refused && all_zero(table.shown()) && !fits);
+            .count(refused && is_clear(table.shown()) && !fits);
     }
 
     /// Widths that do not fit the sound words.

@@ -8,10 +8,11 @@ use std::io;
 use table::refusal::TableRefusal;
 use tally::tally::Tally;
 
-/// The table, the list, and how often a slot held the quotient and a group was full.
+/// The table, how many words it has, the list, and how often a slot held the quotient and a group was full.
 #[derive(Drop)]
 pub struct Pair<T: Tried> {
     table: T,
+    words: usize,
     pub content: Content,
     pub tally: Tally,
     pub held: u64,
@@ -23,6 +24,7 @@ impl<T: Tried> Pair<T> {
     pub fn new(rt: &HostRuntime, words: usize) -> io::Result<Pair<T>> {
         Ok(Pair {
             table: T::over(vec![in rt.alloc(); 7u64; words]?),
+            words,
             content: Content::new(rt.alloc(), Widths { k: 0, v: 0, b: 0 }.layout::<T>()),
             tally: Tally::new(),
             held: 0,
@@ -30,13 +32,11 @@ impl<T: Tried> Pair<T> {
         })
     }
 
-    /// Counts a case that came out right where this holds and the table's words are those of the entries.
+    /// Counts a case that came out right where this holds and the table's words, all of them, are those of the entries.
     fn count(&mut self, right: bool) {
-        let words = self
-            .content
-            .layout
-            .has_words(&self.content.entries, self.table.shown());
-        self.tally.count(right && words);
+        let shown = self.table.shown();
+        let same = self.content.layout.has_words(&self.content.entries, shown);
+        self.tally.count(right && same && shown.len() == self.words);
     }
 
     /// Forms the table, and expects this.

@@ -4,6 +4,7 @@ use crate::mirror::{by_table, refused_at};
 use crate::report::Report;
 use crate::settings::{packed_table, plain_table};
 use crate::worked::{LAST_PITCH, PITCH, nights, stopped};
+use expected::clear::is_clear;
 use model::answer::Answer::{Entry, Number, Refused, Value};
 use model::call::Call::{At, Cancel, Count, Enlarge, Find, Open, Take};
 use model::refusal::Refusal;
@@ -12,7 +13,6 @@ use register::Side;
 use std::io;
 use table::refusal::TableRefusal;
 use table::table::Table;
-use table::words::all_zero;
 
 pub fn full_groups(report: &mut Report<'_>) -> io::Result<()> {
     let steps = [
@@ -129,10 +129,10 @@ pub fn filled_before(report: &mut Report<'_>) -> io::Result<()> {
     report.part.count(formed && one.add(3, 17, 9).is_ok() && other.add(3, 17, 9).is_ok());
     report
         .part
-        .count(!all_zero(one.words()) && !all_zero(other.words()));
+        .count(!is_clear(one.words()) && !is_clear(other.words()));
     let register = nights(same, one, other);
     report.part.count(
-        all_zero(register.words(Side::First)) && all_zero(register.words(Side::Second)),
+        is_clear(register.words(Side::First)) && is_clear(register.words(Side::Second)),
     );
     let steps = [
         (Count, Number(0)),
